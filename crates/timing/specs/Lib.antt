@@ -1,0 +1,4 @@
+pub mod Counts
+pub mod Model
+pub mod Staircase
+pub mod Figures
