@@ -8,8 +8,8 @@ use lib.Dec.{leb}
 use Rattle.std.proofs.shelf.Tests.{cond-true, cond-false, le-leb, lt-leb, leb-true, leb-false}
 use Rattle.std.specs.declared.option.Option.{Option}
 use Rattle.std.specs.declared.option.Option.the-variants.{Some, None}
-use Rattle.staircase.specs.declared.Climb.{Climb}
-use Rattle.staircase.specs.Climbs.{climbed, within, Settles}
+use Rattle.staircase.specs.declared.search.Climb.{Climb}
+use Rattle.staircase.specs.Climbs.{climbed, Settles}
 use Rattle.timing.specs.Staircase.{Rising, Least, climb, rounds}
 use Rattle.timing.proofs.Staircase.{climb-here, climb-past, climb-on, rounds-stop, rounds-on, found, missed}
 
@@ -93,18 +93,3 @@ module _ (f : ℕ → ℕ) (a D : ℕ) where
 
     pub settled : (c : Climb) → c ≡ climbed f a D → Settles f D (c .least)
     settled c e = subst (λ (o : Option ℕ). Settles f D o) (sym (ap (λ (k : Climb). k .least) e)) (settled-by (leb a D) refl)
-
--- what an evaluation under a limit tells
-pub within-some : (most v y : ℕ) → Some y ≡ within most v → (y ≡ v) × (y ≤ most)
-within-some most v y e = by (leb v most) refl e
-  where
-    by : (t : Bool) → leb v most ≡ t → Some y ≡ cond t (Some v) None → (y ≡ v) × (y ≤ most)
-    by true test same = let is : y ≡ v = cc in (is, omega (arith, leb-true v most test))
-    by false test same = let z : _≡_ {A = ℕ} 0 1 = cc in absurd (omega arith)
-
-pub within-none : (most v : ℕ) → None ≡ within most v → most < v
-within-none most v e = by (leb v most) refl e
-  where
-    by : (t : Bool) → leb v most ≡ t → _≡_ {A = Option ℕ} None (cond t (Some v) None) → most < v
-    by true test same = let z : _≡_ {A = ℕ} 0 1 = cc in absurd (omega arith)
-    by false test same = leb-false v most test

@@ -8,7 +8,7 @@ use Prim.Native.Nat.{ℕ, suc, _<_}
 use lib.Dec.{leb}
 use Rattle.std.specs.declared.option.Option.{Option}
 use Rattle.std.specs.declared.option.Option.the-variants.{Some, None}
-use Rattle.staircase.specs.declared.Climb.{Climb}
+use Rattle.staircase.specs.declared.search.Climb.{Climb}
 use Rattle.timing.specs.Staircase.{Least, climb, rounds}
 
 abbrev pub within : ℕ → ℕ → Option ℕ
