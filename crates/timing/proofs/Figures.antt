@@ -13,20 +13,9 @@ use Rattle.timing.specs.Counts.{sumTo, everyTo, ceilDiv}
 use Rattle.timing.specs.Model.{Table, Flow, Lawful, Bound, Bounds, within, figure, alone, jitter, share, delay, demand}
 use Rattle.timing.specs.Staircase.{Least, climb, rounds, Searched}
 use Rattle.timing.specs.Figures.{base, settled, searched, figureOf, boundsTo, boundOf, roundsOf, Exact, Figures-exact}
-use Rattle.timing.proofs.Sums.{sum-eq, every-true}
+use Rattle.timing.proofs.Sums.{sum-eq, every-true, every-eq, every-from}
 use Rattle.timing.proofs.Options.{cases-option, none-some}
 use Rattle.timing.proofs.Staircase.{search-finds, demand-rises}
-
-every-eq : (n : ℕ) (p q : ℕ → Bool) → ((k : ℕ) → k < n → p k ≡ q k) → everyTo n p ≡ everyTo n q
-unfolding everyTo
-every-eq zero p q h = refl
-every-eq (suc n) p q h =
-    ap (λ (t : Bool). t && p n) (every-eq n p q (λ k lt. h k (omega arith))) ∙ ap (λ (t : Bool). everyTo n q && t) (h n (omega arith))
-
-every-from : (n : ℕ) (p : ℕ → Bool) → ((k : ℕ) → k < n → p k ≡ true) → everyTo n p ≡ true
-unfolding everyTo
-every-from zero p h = refl
-every-from (suc n) p h = and-from (everyTo n p) (p n) (every-from n p (λ k lt. h k (omega arith))) (h n (omega arith))
 
 is-some : (o : Option ℕ) → isSome o ≡ true → (y : ℕ) × (o ≡ Some y)
 is-some None e = absurd (both-ways false refl e)
@@ -76,7 +65,7 @@ module _ (b : Table) where
             ap (λ (k : ℕ). boundsTo b (suc k) h) same
       ]
 
-  bound-is : (i : ℕ) → boundOf b i ≡ figureOf b (boundOf b) i
+  pub bound-is : (i : ℕ) → boundOf b i ≡ figureOf b (boundOf b) i
   bound-is i = bounds-at i ∙ figure-same (boundsTo b i) (boundOf b) i (bounds-below i)
 
 module _ (b : Table) (law : Lawful b) (i : ℕ) where

@@ -1,0 +1,4 @@
+// Loading a flow table: its checks, and the figures of each flow.
+pub mod above;
+mod bounding;
+pub mod row;
