@@ -1,3 +1,4 @@
 pub mod Ways
 pub mod Delays
 pub mod Figuring
+pub mod Turns

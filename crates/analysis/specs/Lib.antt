@@ -1,3 +1,4 @@
 pub mod Marks
 pub mod Tables
 pub mod Standing
+pub mod Loading

@@ -1,4 +1,5 @@
 // Loading a flow table: its checks, and the figures of each flow.
 pub mod above;
 mod bounding;
+mod checks;
 pub mod row;

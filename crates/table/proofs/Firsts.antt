@@ -30,11 +30,11 @@ fail : (t : Bool) (f : LoadFault) (a b c : Option LoadFault) → cond t (Some f)
 fail true f a b c e h = e
 fail false f a b c e h = h e
 
-first-passed : (a b : List (Bool × LoadFault)) → firstFault a ≡ None → firstFault (a ++ b) ≡ firstFault b
+pub first-passed : (a b : List (Bool × LoadFault)) → firstFault a ≡ None → firstFault (a ++ b) ≡ firstFault b
 first-passed [] b h = refl
 first-passed (x ∷ a) b h = pass (x .0) (x .1) (firstFault a) (firstFault (a ++ b)) (firstFault b) h (first-passed a b)
 
-first-failed : (a b : List (Bool × LoadFault)) (e : LoadFault) → firstFault a ≡ Some e → firstFault (a ++ b) ≡ Some e
+pub first-failed : (a b : List (Bool × LoadFault)) (e : LoadFault) → firstFault a ≡ Some e → firstFault (a ++ b) ≡ Some e
 first-failed [] b e h = let z : _≡_ {A = ℕ} 0 1 = cc in absurd (omega arith)
 first-failed (x ∷ a) b e h = fail (x .0) (x .1) (firstFault a) (firstFault (a ++ b)) (Some e) h (first-failed a b e)
 
