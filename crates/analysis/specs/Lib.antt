@@ -2,3 +2,4 @@ pub mod Marks
 pub mod Tables
 pub mod Standing
 pub mod Loading
+pub mod Rows

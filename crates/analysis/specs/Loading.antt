@@ -59,6 +59,10 @@ abbrev pub routeChecks : Header → ℕ → Route → ℕ → List (Bool × Load
 routeChecks h i route flits =
     (isErr route, NoRoute i (recordByte h i) (faultIn route)) ∷ (ltb flits 1, Capacity i (recordByte h i)) ∷ []
 
+-- those of flow i of a table
+abbrev pub routeChecksOf : Header → Slot → Profile → List FlowRecord → (ℕ → ℕ → ℕ → Route) → ℕ → List (Bool × LoadFault)
+routeChecksOf h slot p rs route i = routeChecks h i (routeOf slot p rs route i) (flitsOf slot p rs route i)
+
 abbrev pub noProfile : Profile
 noProfile = record { interval = 0; routing = 0; transfer = 0; pause = 0; flit = 0 }
 
@@ -70,11 +74,9 @@ module _ (bs : List ℕ) (nodes : ℕ) (route : ℕ → ℕ → ℕ → Route) w
   abbrev pub flowChecks : List (Bool × LoadFault)
   flowChecks =
       let h = headerOf bs in
-      let rs = flowsOf bs h in
-      eachFlow (λ i. recordChecks h nodes (slotFor h (profileOf h) .length) i (recordOf rs i)) (h .flows)
-      ++ eachFlow
-      (λ i. routeChecks h i (routeOf (slotFor h (profileOf h)) (profileOf h) rs route i) (flitsOf (slotFor h (profileOf h)) (profileOf h) rs route i))
-      (h .flows)
+      let slot = slotFor h (profileOf h) in
+      eachFlow (λ i. recordChecks h nodes (slot .length) i (recordOf (flowsOf bs h) i)) (h .flows)
+      ++ eachFlow (routeChecksOf h slot (profileOf h) (flowsOf bs h) route) (h .flows)
 
   unfoldable pub loadChecks : ℕ → List (Bool × LoadFault)
   loadChecks limit =

@@ -3,3 +3,4 @@ pub mod above;
 mod bounding;
 mod checks;
 pub mod row;
+mod taking;

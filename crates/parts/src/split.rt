@@ -1,6 +1,7 @@
 // How a packet is split into parts.
 ghost use mathlib.Core.Path.{_≡_};
 ghost use Prim.Native.Nat.{_≤_, _<_, _^_};
+ghost use Rattle.std.specs.Options.{Cases};
 ghost use Rattle.parts.specs.Split.{capacity, partsOf, lastFlits, tailOf, splitOf};
 use table::profile::Profile;
 
@@ -51,7 +52,8 @@ fn last_flits(profile: &Profile, flits: u64, payload: u32) -> u64
 fn tail(profile: &Profile, hops: usize, flits: u64) -> u64
     requires links { ⌜ hops ≤ 64 ⌝ }
     requires short { ⌜ flits < 2 ^ 33 ⌝ }
-    ensures { λ r. ⌜ r ≡ tailOf (now (profile .entry)) hops flits ⌝ }
+    ensures value { λ r. ⌜ r ≡ tailOf (now (profile .entry)) hops flits ⌝ }
+    ensures near { λ r. ⌜ r < 2 ^ 60 ⌝ }
 {
     let hops = hops as u64;
     let transfer = u64::from(profile.transfer);
@@ -62,7 +64,8 @@ fn tail(profile: &Profile, hops: usize, flits: u64) -> u64
 // The split of a payload over a route of so many links; none where not even one flit fits into a part,
 // or where the profile or the route is none that a table can have.
 pub fn split_packet(profile: &Profile, window: u32, hops: usize, payload: u32) -> Option<Split>
-    ensures { λ r. ⌜ r ≡ splitOf (now (profile .entry)) window hops payload ⌝ }
+    ensures value { λ r. ⌜ r ≡ splitOf (now (profile .entry)) window hops payload ⌝ }
+    ensures near { λ r. ⌜ Cases r (Unit {0}) (λ s. s .tail < 2 ^ 60) ⌝ }
 {
     if profile.transfer == 0 || profile.flit == 0 || hops > 64 {
         return None;

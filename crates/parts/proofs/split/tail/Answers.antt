@@ -15,4 +15,9 @@ add-result-3 c =
 
 pub returns : need.returns
 unfolding tailOf
-returns c = cc
+returns c =
+    let narrow : c .from-transfer .result ≤ 65535 = omega arith in
+    let few : c .saturating-sub .result ≤ 63 = omega arith in
+    let short : c .from .result ≤ 65535 = omega arith in
+    let flits : c .args .flits + 1 ≤ 8589934592 = omega arith in
+    record { value = cc; near = omega (arith, mul-le-mul few short, mul-le-mul (c .pre .links) narrow, mul-le-mul flits narrow) }
