@@ -66,9 +66,9 @@ module _ (b : Table) (i : ℕ) where
   unfolding figureOf roundsOf searched
   found f ground D c from upto all is start due low e =
       let test : searched b R i ≡ true =
-          and-from ((leb 1 i && leb i (b .z)) && settled b R i) (leb (base b i) (b .D i))
-          (and-from (leb 1 i && leb i (b .z)) (settled b R i) (and-from (leb 1 i) (leb i (b .z)) (le-leb 1 i from) (le-leb i (b .z) upto)) (sym all))
-          (le-leb (base b i) (b .D i) (omega arith)) in
+      and-from ((leb 1 i && leb i (b .z)) && settled b R i) (leb (base b i) (b .D i))
+      (and-from (leb 1 i && leb i (b .z)) (settled b R i) (and-from (leb 1 i) (leb i (b .z)) (le-leb 1 i from) (le-leb i (b .z) upto)) (sym all))
+      (le-leb (base b i) (b .D i) (omega arith)) in
       let here : Climb = record { least = climb f D (suc D) ground; rounds = rounds f D (suc D) ground } in
       let whole : c ≡ here = e ∙ cond-true (leb ground D) here (record { least = None; rounds = 0 }) (le-leb ground D low) in (
         ap (λ (k : Climb). k .least) whole ∙ same-climb ∙ sym (bound-is b i ∙ cond-true (searched b R i) (climb (demand b R i) (b .D i) (suc (b .D i)) (base b i)) None test),

@@ -4,3 +4,8 @@ pub mod Figuring
 pub mod Turns
 pub mod Marking
 pub mod Loads
+pub mod Built
+pub mod Listing
+pub mod Opening
+pub mod Laws
+pub mod Whole

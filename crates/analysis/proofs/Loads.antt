@@ -6,7 +6,9 @@ use Prim.Native.Nat.{ℕ, _+_, _-_, _*_, _≤_, _<_}
 use native.Mathlib.Omega.{arith}
 use lib.Dec.{leb, ltb}
 use lib.ListN.{length, getD}
-use Rattle.std.proofs.shelf.Tests.{and-parts, leb-true, ltb-true, le-leb, lt-ltb}
+use mathlib.Core.Logic.{inl, inr}
+use Rattle.std.proofs.shelf.Lists.{length-push, getD-push, getD-append-left}
+use Rattle.std.proofs.shelf.Tests.{cases-lt, and-parts, leb-true, ltb-true, le-leb, lt-ltb}
 use Rattle.std.specs.declared.option.Option.{Option}
 use Rattle.std.specs.declared.option.Option.the-variants.{Some, None}
 use Rattle.std.specs.declared.result.Result.{Result}
@@ -26,9 +28,9 @@ use Rattle.timing.specs.Model.{Table}
 use Rattle.analysis.specs.declared.row.Row.{Row}
 use Rattle.analysis.specs.Loading.{recordByte, routeChecks, routeChecksOf}
 use Rattle.analysis.specs.Marks.{sharesWith}
-use Rattle.analysis.specs.Rows.{taken, carried, Meets, RowFits, RowsFit}
-use Rattle.analysis.specs.Standing.{Ordered, InSlot, Stands, Standing}
-use Rattle.analysis.specs.Tables.{recordOf, routeOf, pathOf, flitsOf, tableOf}
+use Rattle.analysis.specs.Rows.{taken, carried, Meets, Builds, RowFits, RowsFit}
+use Rattle.analysis.specs.Standing.{Ordered, InSlot, Stands, Standing, Apart}
+use Rattle.analysis.specs.Tables.{noRecord, recordOf, routeOf, pathOf, flitsOf, tableOf}
 
 taken-ok : (h : Header) (i : ℕ) (r : Route) (p : List ℕ) → Ok p ≡ taken h i r → r ≡ Ok p
 taken-ok h i (Ok q) p e = cc
@@ -89,12 +91,12 @@ module _ (slot : Slot) (p : Profile) (rs : List FlowRecord) (route : ℕ → ℕ
     unfolding tableOf
     row-fits inside same fit took carries is at stands =
         let there : routeOf slot p rs route i ≡ Ok (linksIn path) =
-            ap (λ (f : FlowRecord). route i (f .source) (f .destination)) same ∙ taken-ok h i (route i (flow .source) (flow .destination)) (linksIn path) took in
+        ap (λ (f : FlowRecord). route i (f .source) (f .destination)) same ∙ taken-ok h i (route i (flow .source) (flow .destination)) (linksIn path) took in
         let links : pathOf slot p rs route i ≡ linksIn path = ap Rattle.analysis.specs.Tables.linksOf there in
         let got = carried-ok h p (slot .window) i (length (linksIn path)) (flow .payload) split carries in
         let flits : flitsOf slot p rs route i ≡ capacity p (slot .window) (length (linksIn path)) = ap (λ l. capacity p (slot .window) (length l)) links in
         let split-is : split ≡ splitFor p (slot .window) (length (pathOf slot p rs route i)) (recordOf rs i .payload) =
-            got .1 ∙ ap₂ (λ l (f : FlowRecord). splitFor p (slot .window) (length l) (f .payload)) (sym links) (sym same) in (
+        got .1 ∙ ap₂ (λ l (f : FlowRecord). splitFor p (slot .window) (length l) (f .payload)) (sym links) (sym same) in (
           no-fault h i (routeOf slot p rs route i) (linksIn path) (flitsOf slot p rs route i) there (ap (λ n. ltb n 1) flits ∙ got .0),
           record {
             flow = is ∙ sym same;
@@ -104,3 +106,49 @@ module _ (slot : Slot) (p : Profile) (rs : List FlowRecord) (route : ℕ → ℕ
                 (ap (λ (s : Split). s .tail) split-is) (ap (λ (f : FlowRecord). f .separation) (sym same)) (ap (λ (f : FlowRecord). f .deadline) (sym same));
           },
         )
+
+  pub no-rows : RowsFit slot p rs route 0 []
+  no-rows = record { count = refl; each = λ k d less. absurd (omega arith) }
+
+  -- one row more
+  pub row-more : (n : ℕ) (rows : List Row) (row : Row) → RowsFit slot p rs route n rows → RowFits slot p rs route (n + 1) row → RowsFit slot p rs route (n + 1) (rows ++ (row ∷ []))
+  row-more n rows row fit new =
+      record {
+        count = length-push rows row ∙ ap (λ k. k + 1) (fit .count);
+        each = λ k d less.
+            elim (cases-lt k (length rows)) [
+              | inl before ↦
+                  subst (λ (r : Row). RowFits slot p rs route (k + 1) r) (sym (getD-append-left rows (row ∷ []) d k before)) (fit .each k d before)
+              | inr after ↦
+                  let last : length rows ≡ k = omega (arith, less, length-push rows row) in
+                  let number : n + 1 ≡ k + 1 = omega (arith, fit .count) in
+                  subst (λ (r : Row). RowFits slot p rs route (k + 1) r) (sym (getD-push rows row d k last))
+                  (subst (λ (m : ℕ). RowFits slot p rs route m row) number new)
+            ];
+      }
+
+  -- what a row's load tells where the rows before were lent as xs
+  pub turn-built :
+      (h : Header) (n : ℕ) (rows xs : List Row) (flow : FlowRecord) (r : Result Row LoadFault) → xs ≡ rows → RowsFit slot p rs route n rows → n < length rs →
+      getD rs n noRecord ≡ flow →
+      ((qs : List FlowRecord) → length xs < length qs → recordOf qs (length xs + 1) ≡ flow → RowsFit slot p qs route (length xs) xs →
+      Builds (firstFault (routeChecksOf h slot p qs route (length xs + 1))) (RowFits slot p qs route (length xs + 1)) r) →
+      Builds (firstFault (routeChecksOf h slot p rs route (n + 1))) (RowFits slot p rs route (n + 1)) r
+  turn-built h n rows xs flow r lent fit less is told =
+      let count : length xs ≡ n = ap length lent ∙ fit .count in
+      let place : length xs + 1 - 1 ≡ n = omega arith in
+      let each = subst (λ (l : List Row). (k : ℕ) (d : Row) → k < length l → RowFits slot p rs route (k + 1) (getD l k d)) (sym lent) (fit .each) in
+      subst (λ (m : ℕ). Builds (firstFault (routeChecksOf h slot p rs route (m + 1))) (RowFits slot p rs route (m + 1)) r) count
+      (told rs (omega arith) (ap (λ (m : ℕ). getD rs m noRecord) place ∙ is) (record { count = refl; each = each }))
+
+  -- rows of records that are apart are apart
+  pub apart-from :
+      (n : ℕ) (rows xs : List Row) → xs ≡ rows → RowsFit slot p rs route n rows → n ≤ length rs →
+      ((k : ℕ) → k < length rs → 1 ≤ getD rs k noRecord .separation) → Apart xs
+  apart-from n rows xs lent fit within apart k d less =
+      let there : k < length rows = omega (arith, ap length lent) in
+      let place : k + 1 - 1 ≡ k = omega arith in
+      let is : getD rows k d .record .separation ≡ getD rs k noRecord .separation =
+      ap (λ (f : FlowRecord). f .separation) (fit .each k d there .flow) ∙ ap (λ (m : ℕ). getD rs m noRecord .separation) place in
+      let lent-is = ap (λ (l : List Row). getD l k d .record .separation) lent in
+      omega (arith, lent-is, is, apart k (omega (arith, fit .count)))

@@ -3,3 +3,4 @@ pub mod Tables
 pub mod Standing
 pub mod Loading
 pub mod Rows
+pub mod Answers

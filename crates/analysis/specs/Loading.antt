@@ -82,6 +82,6 @@ module _ (bs : List ℕ) (nodes : ℕ) (route : ℕ → ℕ → ℕ → Route) w
   loadChecks limit =
       headerChecks (length bs) (headerOf bs) ++ (misfitChecks limit nodes (headerOf bs) ++ (sectionChecks (length bs) (headerOf bs) ++ flowChecks))
 
-  -- the timing table of a file
-  unfoldable pub timingOf : Table
-  timingOf = tableOf (slotFor (headerOf bs) (profileOf (headerOf bs))) (profileOf (headerOf bs)) (flowsOf bs (headerOf bs)) route
+-- the timing table of a file over a fabric's routes
+unfoldable pub timingOf : List ℕ → (ℕ → ℕ → ℕ → Route) → Table
+timingOf bs route = tableOf (slotFor (headerOf bs) (profileOf (headerOf bs))) (profileOf (headerOf bs)) (flowsOf bs (headerOf bs)) route

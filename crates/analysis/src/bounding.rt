@@ -53,7 +53,9 @@ fn jitter_of(slot: &Slot, row: &Row, number: usize, above: &Above) -> u32
         return 0;
     }
     let bound = u64::from(row.bound.unwrap_or(0));
-    let pushed = bound.saturating_sub(row.alone).saturating_sub(u64::from(slot.length));
+    let pushed = bound
+        .saturating_sub(row.alone)
+        .saturating_sub(u64::from(slot.length));
     (pushed + u64::from(slot.pause)) as u32
 }
 
@@ -69,7 +71,13 @@ fn term_of(slot: &Slot, row: &Row, number: usize, above: &Above) -> Option<Term>
 }
 
 // The demand of the flow that comes after the rows: its own need, and what the flows above take.
-fn demand_of(heap: Global, slot: &Slot, rows: &[Row], above: &Above, ground: u32) -> Result<Demand, AllocError>
+fn demand_of(
+    heap: Global,
+    slot: &Slot,
+    rows: &[Row],
+    above: &Above,
+    ground: u32,
+) -> Result<Demand, AllocError>
     requires pause { ⌜ now slot .pause ≤ now slot .length ⌝ }
     requires apart { ⌜ Apart (now rows) ⌝ }
     ensures { λ r. ⌜ made r (λ d. (d .ground ≡ ground) × ((b : Table) → Ordered b → InSlot b (now (slot .entry)) → Standing b (now (rows .entry)) → Marks b (now (above .entry)) (length (now (rows .entry)) + 1) → Takes b (length (now (rows .entry)) + 1) (vec-items (d .terms)))) ⌝ }
@@ -87,7 +95,14 @@ fn demand_of(heap: Global, slot: &Slot, rows: &[Row], above: &Above, ground: u32
 }
 
 // The bound of the flow that comes after the rows, and the evaluations that the search for it took.
-pub(crate) fn bound_of(heap: Global, slot: &Slot, rows: &[Row], above: &Above, alone: u64, deadline: u32) -> Result<Climb, AllocError>
+pub(crate) fn bound_of(
+    heap: Global,
+    slot: &Slot,
+    rows: &[Row],
+    above: &Above,
+    alone: u64,
+    deadline: u32,
+) -> Result<Climb, AllocError>
     requires pause { ⌜ now slot .pause ≤ now slot .length ⌝ }
     requires apart { ⌜ Apart (now rows) ⌝ }
     requires few { ⌜ length (now rows) < 128 ⌝ }

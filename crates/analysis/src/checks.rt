@@ -52,16 +52,10 @@ fn check_record(
 {
     let byte = record_byte(header, number);
     if is_wrong(flow, nodes) {
-        return Err(LoadFault::Record {
-            flow: number,
-            byte,
-        });
+        return Err(LoadFault::Record { flow: number, byte });
     }
     if flow.separation < slot {
-        return Err(LoadFault::Separation {
-            flow: number,
-            byte,
-        });
+        return Err(LoadFault::Separation { flow: number, byte });
     }
     Ok(())
 }

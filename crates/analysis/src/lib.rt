@@ -2,5 +2,8 @@
 pub mod above;
 mod bounding;
 mod checks;
+pub mod figures;
+pub mod load;
+pub mod loaded;
 pub mod row;
 mod taking;

@@ -8,8 +8,8 @@ ghost use Rattle.std.specs.Vec.{made};
 ghost use Rattle.timing.specs.Model.{Table};
 ghost use Rattle.analysis.specs.Standing.{Ordered, InSlot, Stands, Standing, Apart};
 ghost use Rattle.analysis.specs.Rows.{taken, linksTaken, carried, Meets, Builds, RowFits, RowsFit};
-ghost use Rattle.analysis.specs.Loading.{routeChecksOf};
-ghost use Rattle.analysis.specs.Tables.{recordOf};
+ghost use Rattle.analysis.specs.Loading.{eachFlow, routeChecksOf};
+ghost use Rattle.analysis.specs.Tables.{noRecord, recordOf};
 ghost use Rattle.table.specs.Checks.{firstFault};
 ghost use Rattle.table.specs.declared.records.FlowRecord.{FlowRecord};
 ghost use mathlib.Core.List.{List};
@@ -26,16 +26,27 @@ use std::alloc::AllocError;
 use std::alloc::Global;
 use table::fault::LoadFault;
 use table::fault::LoadFaultFromAllocError;
+use table::fault::LoadFaultFromRefused;
 use table::header::Header;
 use table::profile::Profile;
 use table::records::FlowRecord;
 
 // The route of a flow; where there is none, the fault tells the route's hop and cause inside the load's own.
-fn take_route<F: Fabric>(fabric: &F, header: &Header, number: usize, flow: &FlowRecord) -> Result<Path, LoadFault>
+fn take_route<F: Fabric>(
+    fabric: &F,
+    header: &Header,
+    number: usize,
+    flow: &FlowRecord,
+) -> Result<Path, LoadFault>
     requires { ⌜ number ≤ 128 ⌝ }
     ensures { λ r. ⌜ linksTaken r ≡ taken (now (header .entry)) number (route (now (fabric .entry)) number (now (flow .entry) .source) (now (flow .entry) .destination)) ⌝ }
 {
-    let asked = Path::take(fabric, number, usize::from(flow.source), usize::from(flow.destination));
+    let asked = Path::take(
+        fabric,
+        number,
+        usize::from(flow.source),
+        usize::from(flow.destination),
+    );
     let Ok(path) = asked else {
         let Err(fault) = asked else { unreachable() };
         return Err(LoadFault::Route {
@@ -48,7 +59,14 @@ fn take_route<F: Fabric>(fabric: &F, header: &Header, number: usize, flow: &Flow
 }
 
 // The parts of a flow's packets over its route.
-fn carry(header: &Header, profile: &Profile, slot: &Slot, number: usize, path: &Path, payload: u32) -> Result<Split, LoadFault>
+fn carry(
+    header: &Header,
+    profile: &Profile,
+    slot: &Slot,
+    number: usize,
+    path: &Path,
+    payload: u32,
+) -> Result<Split, LoadFault>
     requires number { ⌜ number ≤ 128 ⌝ }
     requires transfer { ⌜ 1 ≤ now profile .transfer ⌝ }
     requires flit { ⌜ 1 ≤ now profile .flit ⌝ }
@@ -65,7 +83,14 @@ fn carry(header: &Header, profile: &Profile, slot: &Slot, number: usize, path: &
 }
 
 // The row of the flow that comes after the rows.
-fn row_of(heap: Global, slot: &Slot, rows: &[Row], flow: FlowRecord, path: Path, split: Split) -> Result<Row, AllocError>
+fn row_of(
+    heap: Global,
+    slot: &Slot,
+    rows: &[Row],
+    flow: FlowRecord,
+    path: Path,
+    split: Split,
+) -> Result<Row, AllocError>
     requires pause { ⌜ now slot .pause ≤ now slot .length ⌝ }
     requires short { ⌜ now slot .length < 2 ^ 30 ⌝ }
     requires near { ⌜ split .tail < 2 ^ 62 ⌝ }
@@ -92,7 +117,15 @@ fn row_of(heap: Global, slot: &Slot, rows: &[Row], flow: FlowRecord, path: Path,
 }
 
 // The row of the flow that comes after the rows, by its record; the checks of its route come first.
-fn load_row<F: Fabric>(heap: Global, fabric: &F, header: &Header, profile: &Profile, slot: &Slot, rows: &[Row], flow: FlowRecord) -> Result<Row, LoadFault>
+fn load_row<F: Fabric>(
+    heap: Global,
+    fabric: &F,
+    header: &Header,
+    profile: &Profile,
+    slot: &Slot,
+    rows: &[Row],
+    flow: FlowRecord,
+) -> Result<Row, LoadFault>
     requires pause { ⌜ now slot .pause ≤ now slot .length ⌝ }
     requires short { ⌜ now slot .length < 2 ^ 30 ⌝ }
     requires transfer { ⌜ 1 ≤ now profile .transfer ⌝ }
@@ -106,4 +139,29 @@ fn load_row<F: Fabric>(heap: Global, fabric: &F, header: &Header, profile: &Prof
     let split = carry(header, profile, slot, number, &path, flow.payload)?;
     let row = row_of(heap, slot, rows, flow, path, split)?;
     Ok(row)
+}
+
+// The rows of all flows, in turn.
+pub(crate) fn load_rows<F: Fabric>(
+    heap: Global,
+    fabric: &F,
+    header: &Header,
+    profile: &Profile,
+    slot: &Slot,
+    records: &[FlowRecord],
+) -> Result<Vec<Row>, LoadFault>
+    requires pause { ⌜ now slot .pause ≤ now slot .length ⌝ }
+    requires short { ⌜ now slot .length < 2 ^ 30 ⌝ }
+    requires transfer { ⌜ 1 ≤ now profile .transfer ⌝ }
+    requires flit { ⌜ 1 ≤ now profile .flit ⌝ }
+    requires apart { ⌜ ((k : ℕ) → k < length (now records) → 1 ≤ getD (now records) k noRecord .separation) ⌝ }
+    requires few { ⌜ length (now records) ≤ 128 ⌝ }
+    ensures { λ r. ⌜ Builds (firstFault (eachFlow (routeChecksOf (now (header .entry)) (now (slot .entry)) (now (profile .entry)) (now (records .entry)) (route (now (fabric .entry)))) (length (now (records .entry))))) (λ v. RowsFit (now (slot .entry)) (now (profile .entry)) (now (records .entry)) (route (now (fabric .entry))) (length (now (records .entry))) (vec-items v)) r ⌝ }
+{
+    let mut rows = Vec::new(heap);
+    for flow in records {
+        let row = load_row(heap, fabric, header, profile, slot, rows.as_slice(), *flow)?;
+        rows.push(row)?;
+    }
+    Ok(rows)
 }

@@ -21,7 +21,9 @@ fn capacity(profile: &Profile, window: u32, hops: usize) -> u64
     let hops = hops as u64;
     let routing = hops.saturating_sub(1) * u64::from(profile.routing);
     let free = u64::from(window).saturating_sub(routing);
-    (free / u64::from(profile.transfer)).saturating_sub(hops).saturating_sub(1)
+    (free / u64::from(profile.transfer))
+        .saturating_sub(hops)
+        .saturating_sub(1)
 }
 
 // How many parts a payload takes.
@@ -45,7 +47,9 @@ fn last_flits(profile: &Profile, flits: u64, payload: u32) -> u64
     let full = flits * u64::from(profile.flit);
     let parts = u64::from(part_count(profile, flits, payload));
     let before = parts.saturating_sub(1) * full;
-    u64::from(payload).saturating_sub(before).div_ceil(u64::from(profile.flit))
+    u64::from(payload)
+        .saturating_sub(before)
+        .div_ceil(u64::from(profile.flit))
 }
 
 // The cycles of the last part after its slot.

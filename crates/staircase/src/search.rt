@@ -38,12 +38,18 @@ pub fn least_solution<S: Staircase>(stairs: &S, most: u32) -> Climb
     let mut x = stairs.ground();
     let mut rounds = 0;
     if x > most {
-        return Climb { least: None, rounds };
+        return Climb {
+            least: None,
+            rounds,
+        };
     }
     loop {
         rounds += 1;
         let Some(y) = stairs.value_within(x, most) else {
-            return Climb { least: None, rounds };
+            return Climb {
+                least: None,
+                rounds,
+            };
         };
         if y == x {
             return Climb {

@@ -53,3 +53,9 @@ exits r o x e by h = let p = err-from-errBy r by in p .1 ∙ ap Err (p .2) ∙ s
 pub unless-value : {X : Type 0} (o : Option LoadFault) (x y : X) → Ok y ≡ unless o x → y ≡ x
 unless-value None x y h = cc
 unless-value (Some f) x y h = let z : _≡_ {A = ℕ} 0 1 = cc in absurd (omega arith)
+
+-- where no check fails, none fails in either part
+pub both-passed : (a b : List (Bool × LoadFault)) → firstFault (a ++ b) ≡ None → (firstFault a ≡ None) × (firstFault b ≡ None)
+both-passed [] b e = (refl, e)
+both-passed ((true, fault) ∷ a) b e = let z : _≡_ {A = ℕ} 0 1 = cc in absurd (omega arith)
+both-passed ((false, fault) ∷ a) b e = both-passed a b e

@@ -131,7 +131,10 @@ pub impl fmt::Display for LoadFault as LoadFaultDisplay {
         if let LoadFault::Route { fault, .. } = fault {
             let hop = fault.hop;
             let cause = fault.cause.number();
-            return write!(f, "refused {number} flow {flow} byte {byte} hop {hop} cause {cause}");
+            return write!(
+                f,
+                "refused {number} flow {flow} byte {byte} hop {hop} cause {cause}"
+            );
         }
         write!(f, "refused {number} flow {flow} byte {byte}")
     }

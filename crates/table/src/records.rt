@@ -137,7 +137,11 @@ fn read_section<R: FileRecord + Drop>(
 }
 
 // The flow records.
-pub fn read_flows(heap: Global, bytes: &[u8], header: &Header) -> Result<Vec<FlowRecord>, AllocError>
+pub fn read_flows(
+    heap: Global,
+    bytes: &[u8],
+    header: &Header,
+) -> Result<Vec<FlowRecord>, AllocError>
     ensures { λ r. ⌜ made r (λ v. vec-items v ≡ flowsOf (now (bytes .entry)) (now (header .entry))) ⌝ }
 {
     read_section(heap, bytes, header.flows_at, header.flows)
@@ -151,7 +155,11 @@ pub fn read_links(heap: Global, bytes: &[u8], header: &Header) -> Result<Vec<End
 }
 
 // The route entries, one for each flow.
-pub fn read_entries(heap: Global, bytes: &[u8], header: &Header) -> Result<Vec<RouteEntry>, AllocError>
+pub fn read_entries(
+    heap: Global,
+    bytes: &[u8],
+    header: &Header,
+) -> Result<Vec<RouteEntry>, AllocError>
     ensures { λ r. ⌜ made r (λ v. vec-items v ≡ entriesOf (now (bytes .entry)) (now (header .entry))) ⌝ }
 {
     read_section(heap, bytes, header.routes_at, header.flows)

@@ -15,16 +15,16 @@ pub returns-then-all-bounded-ground : need.returns-then-all-bounded-ground
 returns-then-all-bounded-ground c = λ b ordered times standing marks inside alone-is due.
     let i = length (c .args .rows .now) + 1 in
     let start =
-        start-is b i (c .saturating-sub-wait .result) (c .from-length .result) (c .from .result) (c .args .alone) (c .args .slot .now .length) (c .args .slot .now .interval)
-        (c .from-length .ensures) (times .length-is) (c .saturating-sub-wait .ensures) (c .from .ensures) (times .ends i) alone-is in
+    start-is b i (c .saturating-sub-wait .result) (c .from-length .result) (c .from .result) (c .args .alone) (c .args .slot .now .length) (c .args .slot .now .interval)
+    (c .from-length .ensures) (times .length-is) (c .saturating-sub-wait .ensures) (c .from .ensures) (times .ends i) alone-is in
     unbounded b i (c .all-bounded .result) _ (c .from-2 .result) (c .all-bounded .ensures b ordered standing marks) start (c .from-2 .ensures ∙ due) (c .if-all-bounded-ground .taken)
 
 pub returns : need.returns
 returns c = λ b ordered times standing marks inside alone-is due.
     let i = length (c .args .rows .now) + 1 in
     let start =
-        start-is b i (c .saturating-sub-wait .result) (c .from-length .result) (c .from .result) (c .args .alone) (c .args .slot .now .length) (c .args .slot .now .interval)
-        (c .from-length .ensures) (times .length-is) (c .saturating-sub-wait .ensures) (c .from .ensures) (times .ends i) alone-is in
+    start-is b i (c .saturating-sub-wait .result) (c .from-length .result) (c .from .result) (c .args .alone) (c .args .slot .now .length) (c .args .slot .now .interval)
+    (c .from-length .ensures) (times .length-is) (c .saturating-sub-wait .ensures) (c .from .ensures) (times .ends i) alone-is in
     let test = or-parts (not (c .all-bounded .result)) (ltb (c .from-2 .result) (c .saturating-sub-wait .result + c .from-length .result + c .args .alone)) (c .if-all-bounded-ground .left) in
     let all = sym (not-false (c .all-bounded .result) (test .0)) ∙ c .all-bounded .ensures b ordered standing marks in
     let low = ltb-false (c .from-2 .result) (c .saturating-sub-wait .result + c .from-length .result + c .args .alone) (test .1) in

@@ -38,20 +38,20 @@ returns c =
           let above = c .sharing-above .result in
           let climb = c .in-Continue-climb .climb in
           let row : Row =
-              record {
-                «record» = c .args .flow;
-                path = c .args .path;
-                parts = c .args .split .parts;
-                tail = c .args .split .tail;
-                alone = c .saturating-sub .result * c .from .result + c .args .split .tail;
-                above = above;
-                bound = climb .least;
-                rounds = climb .rounds;
-              } in
+          record {
+            «record» = c .args .flow;
+            path = c .args .path;
+            parts = c .args .split .parts;
+            tail = c .args .split .tail;
+            alone = c .saturating-sub .result * c .from .result + c .args .split .tail;
+            above = above;
+            bound = climb .least;
+            rounds = climb .rounds;
+          } in
           let marks = marks-from b rows (c .args .path) above row (c .pre .few) (c .sharing-above .ensures) meets in
           let own =
-              alone-from b i (c .from-parts .result) (c .saturating-sub .result) (c .from .result) (c .args .split .tail) (c .saturating-sub .ensures) (c .from-parts .ensures ∙ parts)
-              (c .from .ensures ∙ times .length-is) tail in
+          alone-from b i (c .from-parts .result) (c .saturating-sub .result) (c .from .result) (c .args .split .tail) (c .saturating-sub .ensures) (c .from-parts .ensures ∙ parts)
+          (c .from .ensures ∙ times .length-is) tail in
           let figures = c .in-Continue-climb .ensures tt b ordered times standing marks inside own deadline in
           record {
             parts = parts;

@@ -88,7 +88,7 @@ returns-in-Break-check-profile c =
     let h = c .read-header .result in
     exits _ (firstFault (headerChecks n h)) h (c .in-Break-check-profile .field-0 .0) (c .from-residual-in-Break-check-profile .ensures .1)
     (past-reserved n h (c .in-Continue-check-size .ensures tt) (c .in-Continue-check-shape .ensures tt) (c .in-Continue-check-unlisted .ensures tt)
-      (c .in-Continue-check-reserved .ensures tt)
+    (c .in-Continue-check-reserved .ensures tt)
     ∙ unless-err (firstFault (profileChecks h)) tt _ (c .in-Break-check-profile .ensures tt))
     ∙ ap (told n) (c .read-header .ensures)
 
@@ -99,6 +99,6 @@ returns c =
     let h = c .read-header .result in
     sym (ap (λ o. unless o h)
     (past-reserved n h (c .in-Continue-check-size .ensures tt) (c .in-Continue-check-shape .ensures tt) (c .in-Continue-check-unlisted .ensures tt)
-      (c .in-Continue-check-reserved .ensures tt)
+    (c .in-Continue-check-reserved .ensures tt)
     ∙ unless-ok (firstFault (profileChecks h)) tt tt (c .in-Continue-check-profile .ensures tt)))
     ∙ ap (told n) (c .read-header .ensures)

@@ -1,0 +1,5 @@
+pub mod Walks
+pub mod Found
+pub mod Sound
+pub mod Laws
+pub mod Headers

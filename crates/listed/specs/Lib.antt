@@ -1,0 +1,3 @@
+pub mod ListedRoutes
+pub mod Meaning
+pub mod Made

@@ -1,0 +1,4 @@
+pub mod Grid
+pub mod Links
+pub mod Paths
+pub mod Makes
