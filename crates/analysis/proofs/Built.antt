@@ -19,3 +19,7 @@ built-fault o P r e by first = let q = err-from-errBy r by in subst (Builds o P)
 -- no memory, whatever the checks say
 pub built-nothing : {X : Type 0} (o : Option LoadFault) (P : X → Type 0) (r : Result X LoadFault) → ErrBy r (λ y. y ≡ NoMemory) → Builds o P r
 built-nothing o P r by = built-fault o P r NoMemory by (λ other. absurd (other refl))
+
+-- the fault that was handed up
+pub handed-up : {X : Type 0} (r : Result X LoadFault) (e f : LoadFault) → ErrBy r (λ y. y ≡ e) → r ≡ Err f → e ≡ f
+handed-up r e f by out = let q = err-from-errBy r by in let a = q .1 in let b = q .2 in cc

@@ -14,16 +14,16 @@ use Rattle.std.specs.declared.option.Option.the-variants.{Some, None}
 use Rattle.table.specs.declared.fault.LoadFault.{LoadFault}
 use Rattle.table.specs.declared.header.Header.{Header}
 use Rattle.table.specs.declared.profile.Profile.{Profile}
+use Rattle.table.specs.declared.fault.LoadFault.the-variants.{NoMemory}
+use Rattle.table.specs.Faults.{faultNumber}
+use Rattle.std.proofs.shelf.Tests.{both-ways}
 use Rattle.table.specs.Profiles.{profileAt}
 use Rattle.table.specs.File.{headerOf, flowsOf, flowAt}
 use Rattle.table.specs.Checks.{firstFault, sizeChecks, shapeChecks, unlistedChecks, reservedChecks, profileChecks, headerChecks, sectionChecks}
 use Rattle.table.proofs.Firsts.{both-passed, first-passed, first-failed}
 use Rattle.parts.specs.declared.slot.Slot.{Slot}
 use Rattle.parts.specs.Slots.{slotOf, slotFor}
-use Rattle.analysis.specs.Loading.{misfitChecks, profileOf, noProfile}
-
-abbrev pub openChecks : ℕ → ℕ → ℕ → Header → List (Bool × LoadFault)
-openChecks len limit nodes h = headerChecks len h ++ (misfitChecks limit nodes h ++ sectionChecks len h)
+use Rattle.analysis.specs.Loading.{misfitChecks, openChecks, profileOf, noProfile}
 
 -- the checks in the order of a load, and as they are made
 pub regrouped : (a m s x : List (Bool × LoadFault)) → (a ++ (m ++ s)) ++ x ≡ a ++ (m ++ (s ++ x))
@@ -98,3 +98,22 @@ slot-short h p ok small =
 
 pub flow-count : (bs : List ℕ) (h : Header) → length (flowsOf bs h) ≡ h .flows
 flow-count bs h = length-map-counting (λ i. flowAt bs (h .«flows_at» + 16 * i)) 0 (h .flows)
+
+-- no check tells of want of memory
+numberedAll : List (Bool × LoadFault) → Type 0
+numberedAll [] = Unit {0}
+numberedAll (x ∷ rest) = (isSome (faultNumber (x .1)) ≡ true) × numberedAll rest
+
+first-numbered : (checks : List (Bool × LoadFault)) (e : LoadFault) → numberedAll checks → firstFault checks ≡ Some e → isSome (faultNumber e) ≡ true
+unfolding numberedAll
+first-numbered [] e all fault = let z : _≡_ {A = ℕ} 0 1 = cc in absurd (omega arith)
+first-numbered ((true, f) ∷ rest) e all fault = let same : f ≡ e = cc in subst (λ (x : LoadFault). isSome (faultNumber x) ≡ true) same (all .0)
+first-numbered ((false, f) ∷ rest) e all fault = first-numbered rest e (all .1) fault
+
+open-numbered : (len limit nodes : ℕ) (h : Header) → numberedAll (openChecks len limit nodes h)
+unfolding numberedAll
+open-numbered len limit nodes h =
+    (refl, (refl, (refl, (refl, (refl, (refl, (refl, (refl, (refl, (refl, (refl, (refl, (refl, (refl, (refl, (refl, tt))))))))))))))))
+
+pub open-never : (len limit nodes : ℕ) (h : Header) → firstFault (openChecks len limit nodes h) ≡ Some NoMemory → ⊥
+open-never len limit nodes h fault = both-ways false refl (first-numbered (openChecks len limit nodes h) NoMemory (open-numbered len limit nodes h) fault)

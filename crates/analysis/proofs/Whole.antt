@@ -20,11 +20,11 @@ use Rattle.timing.specs.Model.{Lawful}
 use Rattle.timing.proofs.Figures.{figures-are}
 use Rattle.analysis.specs.declared.row.Row.{Row}
 use Rattle.analysis.specs.Answers.{Exactly}
-use Rattle.analysis.specs.Loading.{eachFlow, misfitChecks, recordChecks, routeChecksOf, profileOf, flowChecks, loadChecks, timingOf}
+use Rattle.analysis.specs.Loading.{eachFlow, misfitChecks, openChecks, recordChecks, routeChecksOf, profileOf, flowChecks, loadChecks, timingOf}
 use Rattle.analysis.specs.Rows.{RowsFit}
 use Rattle.analysis.specs.Tables.{recordOf}
 use Rattle.analysis.proofs.Laws.{lawful}
-use Rattle.analysis.proofs.Opening.{openChecks, regrouped, flow-count, Opened, Sound, opened, slot-short}
+use Rattle.analysis.proofs.Opening.{regrouped, flow-count, Opened, Sound, opened, slot-short}
 
 -- the faults of the records, and of the routes
 abbrev recordsOf : ℕ → Header → Slot → List FlowRecord → ℕ → List (Bool × LoadFault)

@@ -35,6 +35,10 @@ eachFlow checks (suc n) = eachFlow checks n ++ checks (suc n)
 abbrev pub misfitChecks : ℕ → ℕ → Header → List (Bool × LoadFault)
 misfitChecks limit nodes h = (ltb limit (h .flows) || not (eqb nodes (h .width * h .height)), Misfit) ∷ []
 
+-- the checks that need no memory: of the file's size, header and sections, and of its fit
+abbrev pub openChecks : ℕ → ℕ → ℕ → Header → List (Bool × LoadFault)
+openChecks len limit nodes h = headerChecks len h ++ (misfitChecks limit nodes h ++ sectionChecks len h)
+
 -- where the record of flow i begins
 abbrev pub recordByte : Header → ℕ → ℕ
 recordByte h i = h .«flows_at» + 16 * (i - 1)

@@ -1,12 +1,13 @@
 // Loading a flow table over a fabric.
 ghost use mathlib.Core.Path.{_≡_};
-ghost use mathlib.Core.List.{_++_};
-ghost use Prim.Native.Nat.{ℕ, _≤_};
 ghost use lib.ListN.{length};
 ghost use Rattle.std.specs.Vec.{made};
+ghost use Rattle.std.specs.declared.option.Option.the-variants.{None};
+ghost use Rattle.std.specs.declared.result.Result.the-variants.{Err};
+ghost use Rattle.table.specs.declared.fault.LoadFault.the-variants.{NoMemory};
 ghost use Rattle.table.specs.File.{headerOf};
-ghost use Rattle.table.specs.Checks.{firstFault, unless, headerChecks, sectionChecks};
-ghost use Rattle.analysis.specs.Loading.{misfitChecks, loadChecks, timingOf};
+ghost use Rattle.table.specs.Checks.{firstFault, unless};
+ghost use Rattle.analysis.specs.Loading.{openChecks, loadChecks, timingOf};
 ghost use Rattle.analysis.specs.Rows.{Builds};
 ghost use Rattle.analysis.specs.Answers.{Loads, Exactly};
 use crate::checks::check_fit;
@@ -26,7 +27,7 @@ use table::records::read_flows;
 
 // The header of a file that is in order, and that fits the medium and the fabric.
 fn open_file(file: &[u8], nodes: usize, limit: usize) -> Result<Header, LoadFault>
-    ensures { λ r. ⌜ r ≡ unless (firstFault (headerChecks (length (now (file .entry))) (headerOf (now (file .entry))) ++ (misfitChecks limit nodes (headerOf (now (file .entry))) ++ sectionChecks (length (now (file .entry))) (headerOf (now (file .entry)))))) (headerOf (now (file .entry))) ⌝ }
+    ensures { λ r. ⌜ r ≡ unless (firstFault (openChecks (length (now (file .entry))) limit nodes (headerOf (now (file .entry))))) (headerOf (now (file .entry))) ⌝ }
 {
     let header = check_header(file)?;
     check_fit(&header, limit, nodes)?;
@@ -43,6 +44,7 @@ pub fn load<F: Fabric>(
     limit: usize,
 ) -> Result<Loaded, LoadFault>
     ensures answer { λ r. ⌜ Builds (firstFault (loadChecks (now (file .entry)) (nodes (now (fabric .entry))) (route (now (fabric .entry))) limit)) (Loads (now (file .entry)) (route (now (fabric .entry)))) r ⌝ }
+    ensures memory { λ r. ⌜ (r ≡ Err NoMemory → firstFault (openChecks (length (now (file .entry))) limit (nodes (now (fabric .entry))) (headerOf (now (file .entry)))) ≡ None) ⌝ }
     ensures exact { λ r. ⌜ made r (λ _. Exactly (timingOf (now (file .entry)) (route (now (fabric .entry))))) ⌝ }
 {
     let nodes = fabric.node_count();

@@ -26,7 +26,7 @@ impl Loaded {
     pub fn figures(&self, flow: usize) -> Option<Figures>
         ensures { λ r. ⌜ r ≡ figuresAt (vec-items (now (self .entry) .rows)) flow ⌝ }
     {
-        if (flow < 1) | (flow > self.rows.len()) {
+        if (flow < 1) | (flow > self.flows()) {
             return None;
         }
         let row = &self.rows[flow - 1];

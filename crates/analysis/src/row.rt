@@ -14,7 +14,7 @@ pub struct Row {
     pub alone: u64,
     // the flows above that share a link with it
     pub above: Above,
-    // no packet is later than this after its release, if there is such a bound, and the evaluations that it took
+    // the least solution of its equation within its deadline, if it has one, and the evaluations that it took
     pub bound: Option<u32>,
     pub rounds: u64,
 }

@@ -2,7 +2,6 @@
 --   Route: the links in their order, or why there is no route
 --   Lawful: what every route from node s to node d keeps
 --   lengthOf, linkOf, endsOf: the answers to a fabric's questions
---   shares: one link number stands in both routes
 use mathlib.Core.Path.{_≡_}
 use mathlib.Core.List.{List, [], _∷_}
 use mathlib.Core.Bool.{Bool, true, false, cond, _||_}

@@ -12,7 +12,7 @@ use Rattle.table.specs.declared.profile.Profile.{Profile}
 use Rattle.timing.specs.Counts.{ceilDiv}
 
 -- What is left of the window once a header is routed at each router of the route: as many flits, less those that
--- the links of the route hold and the header itself. None is below 1.
+-- the links of the route hold and the tail flit. Below 1 nothing can be carried.
 unfoldable pub capacity : Profile → ℕ → ℕ → ℕ
 capacity p window hops = (window - (hops - 1) * p .routing) / p .transfer - hops - 1
 
@@ -23,7 +23,7 @@ partsOf p flits payload = ceilDiv payload (flits * p .flit)
 unfoldable pub lastFlits : Profile → ℕ → ℕ → ℕ
 lastFlits p flits payload = ceilDiv (payload - (partsOf p flits payload - 1) * (flits * p .flit)) (p .flit)
 
--- routing at each router, each link for the header, and the flits with their header after it
+-- routing at each router, the header over each link, and then the flits with the tail flit
 unfoldable pub tailOf : Profile → ℕ → ℕ → ℕ
 tailOf p hops flits = (hops - 1) * p .routing + hops * p .transfer + (flits + 1) * p .transfer
 

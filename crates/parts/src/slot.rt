@@ -5,7 +5,7 @@ ghost use Rattle.parts.specs.Slots.{slotOf};
 use table::header::Header;
 use table::profile::Profile;
 
-#[derive(Clone, Copy, PartialEq, Eq, Debug)]
+#[derive(Clone, Copy)]
 pub struct Slot {
     // one interval
     pub interval: u32,

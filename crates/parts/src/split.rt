@@ -6,7 +6,7 @@ ghost use Rattle.parts.specs.Split.{capacity, partsOf, lastFlits, tailOf, spli
 use table::profile::Profile;
 
 // A packet in parts: how many, and the cycles that the last one travels after its slot.
-#[derive(Clone, Copy, PartialEq, Eq, Debug)]
+#[derive(Clone, Copy)]
 pub struct Split {
     pub parts: u32,
     pub tail: u64,

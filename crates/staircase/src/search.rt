@@ -23,7 +23,7 @@ pub trait Staircase {
 }
 
 // What a search found, and how many evaluations it took.
-#[derive(Clone, Copy, PartialEq, Eq, Debug)]
+#[derive(Clone, Copy)]
 pub struct Climb {
     pub least: Option<u32>,
     pub rounds: u64,

@@ -2,18 +2,16 @@
 ghost use mathlib.Core.Path.{_≡_};
 ghost use Rattle.table.specs.Faults.{faultNumber, faultFlow, faultByte};
 ghost use Rattle.table.specs.declared.fault.LoadFault.the-variants.{NoMemory};
-use fabric::fault::CauseDebug;
 use fabric::fault::CauseEq;
 use fabric::fault::CausePartialEq;
 use fabric::fault::RouteFault;
-use fabric::fault::RouteFaultDebug;
 use fabric::fault::RouteFaultEq;
 use fabric::fault::RouteFaultPartialEq;
 use std::alloc::AllocError;
 use std::alloc::Refused;
 use std::fmt;
 
-#[derive(Clone, Copy, PartialEq, Eq, Debug)]
+#[derive(Clone, Copy, PartialEq, Eq)]
 pub enum LoadFault {
     // there was no memory to load the table into; this refusal has no number
     NoMemory,

@@ -4,7 +4,7 @@ ghost use Rattle.table.specs.File.{headerOf};
 use crate::bytes::u16_at;
 use crate::bytes::u32_at;
 
-#[derive(Clone, Copy, PartialEq, Eq, Debug)]
+#[derive(Clone, Copy)]
 pub struct Header {
     // how many flows there are
     pub flows: u16,

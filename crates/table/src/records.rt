@@ -14,7 +14,7 @@ use std::alloc::AllocError;
 use std::alloc::Global;
 
 // One flow: packets of so many bytes go from a source to a destination.
-#[derive(Clone, Copy, PartialEq, Eq, Debug)]
+#[derive(Clone, Copy)]
 pub struct FlowRecord {
     pub source: u16,
     pub destination: u16,
@@ -26,7 +26,7 @@ pub struct FlowRecord {
 }
 
 // Where a flow's listed route stands: so many links, from this position of the number list on.
-#[derive(Clone, Copy, PartialEq, Eq, Debug)]
+#[derive(Clone, Copy)]
 pub struct RouteEntry {
     pub length: u16,
     pub position: u16,

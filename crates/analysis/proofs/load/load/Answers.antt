@@ -10,6 +10,7 @@ use Rattle.std.proofs.shelf.Results.{made-from-err}
 use Rattle.std.proofs.shelf.Tests.{both-ways}
 use Rattle.std.specs.declared.option.Option.{Option}
 use Rattle.std.specs.declared.option.Option.the-variants.{Some, None}
+use Rattle.table.specs.declared.fault.LoadFault.the-variants.{NoMemory}
 use Rattle.table.specs.declared.header.Header.{Header}
 use Rattle.table.specs.declared.profile.Profile.{Profile}
 use Rattle.table.specs.declared.records.FlowRecord.{FlowRecord}
@@ -19,11 +20,11 @@ use Rattle.table.specs.Checks.{firstFault}
 use Rattle.table.proofs.Firsts.{unless-err, unless-ok, unless-value}
 use Rattle.parts.specs.declared.slot.Slot.{Slot}
 use Rattle.parts.specs.Slots.{slotFor}
-use Rattle.analysis.specs.Loading.{profileOf, recordChecks, loadChecks}
+use Rattle.analysis.specs.Loading.{profileOf, recordChecks, openChecks, loadChecks}
 use Rattle.analysis.specs.Tables.{noRecord, recordOf}
-use Rattle.analysis.proofs.Built.{built-fault, built-nothing}
+use Rattle.analysis.proofs.Built.{built-fault, built-nothing, handed-up}
 use Rattle.analysis.proofs.Laws.{each-passed, right}
-use Rattle.analysis.proofs.Opening.{openChecks, Opened, Sound, opened, sound, profile-is, slot-is, slot-there, slot-short, flow-count}
+use Rattle.analysis.proofs.Opening.{Opened, Sound, opened, sound, profile-is, slot-is, slot-there, slot-short, flow-count, open-never}
 use Rattle.analysis.proofs.Whole.{open-fault, record-fault, routes-decide, rows-of, exactly}
 use Rattle.analysis.proofs.load.load.Needs as need
 
@@ -37,6 +38,7 @@ returns-in-Break-header g c =
     let all = ap (λ (n : ℕ). firstFault (loadChecks bs n R (c .args .limit))) (sym (c .node-count-nodes .ensures)) ∙ open-fault bs N (c .args .limit) R e fault in
     record {
       answer = built-fault _ _ _ e (c .from-residual .ensures .1) (λ _. all);
+      memory = λ out. absurd (open-never (length bs) (c .args .limit) N (headerOf bs) (fault ∙ ap Some (handed-up _ e NoMemory (c .from-residual .ensures .1) out)));
       exact = made-from-err _ _ (c .from-residual .ensures .0);
     }
 
@@ -93,7 +95,21 @@ returns-in-Break-check-records g c =
     let all = ap (λ (n : ℕ). firstFault (loadChecks bs n R L)) (sym (c .node-count-nodes .ensures)) ∙ fault in
     record {
       answer = built-fault _ _ _ e (c .from-residual-in-Break-check-records .ensures .1) (λ _. all);
+      memory = λ _. ap (λ (n : ℕ). firstFault (openChecks (length bs) L n H)) (sym (c .node-count-nodes .ensures)) ∙ fine;
       exact = made-from-err _ _ (c .from-residual-in-Break-check-records .ensures .0);
+    }
+
+pub returns-in-Break-records : need.returns-in-Break-records
+returns-in-Break-records g c =
+    let bs = c .args .file .now in
+    let H = headerOf bs in
+    let N = c .node-count-nodes .result in
+    let L = c .args .limit in
+    let fine = unless-ok (firstFault (openChecks (length bs) L N H)) H (c .in-Continue-header .header) (c .in-Continue-header .ensures tt) in
+    record {
+      answer = built-nothing _ _ _ (c .from-residual-in-Break-records .ensures .1);
+      memory = λ _. ap (λ (n : ℕ). firstFault (openChecks (length bs) L n H)) (sym (c .node-count-nodes .ensures)) ∙ fine;
+      exact = made-from-err _ _ (c .from-residual-in-Break-records .ensures .0);
     }
 
 pub load-rows-requires : need.load-rows-requires
@@ -150,6 +166,7 @@ returns-in-Break-rows g c =
       answer = built-fault _ _ _ e (c .from-residual-in-Break-rows .ensures .1) (λ other.
           ap (λ (n : ℕ). firstFault (loadChecks bs n R L)) (sym (c .node-count-nodes .ensures))
           ∙ routes-decide bs N L R fine h p slot xs eh ep es er right-all (Some e) (c .in-Break-rows .ensures tt other));
+      memory = λ _. ap (λ (n : ℕ). firstFault (openChecks (length bs) L n H)) (sym (c .node-count-nodes .ensures)) ∙ fine;
       exact = made-from-err _ _ (c .from-residual-in-Break-rows .ensures .0);
     }
 
@@ -177,5 +194,6 @@ returns g c =
         ap (λ (n : ℕ). firstFault (loadChecks bs n R L)) (sym (c .node-count-nodes .ensures)) ∙ routes-decide bs N L R fine h p slot xs eh ep es er right-all None (built .0),
         record { slot-is = es; rows-fit = rows-of bs N L R fine h p slot xs eh ep es er right-all _ (built .1) },
       );
+      memory = λ _. ap (λ (n : ℕ). firstFault (openChecks (length bs) L n H)) (sym (c .node-count-nodes .ensures)) ∙ fine;
       exact = exactly bs N L R fine h p slot xs eh ep es er right-all small (built .0);
     }

@@ -6,8 +6,7 @@ use Rattle.table.specs.declared.header.Header.{Header}
 use Rattle.table.specs.File.{headerOf}
 use Rattle.table.specs.Checks.{checkedHeader, firstFault, unless, headerChecks, sectionChecks}
 use Rattle.table.proofs.Firsts.{passed, failed, exits, unless-err, unless-ok, unless-value}
-use Rattle.analysis.specs.Loading.{misfitChecks}
-use Rattle.analysis.proofs.Opening.{openChecks}
+use Rattle.analysis.specs.Loading.{misfitChecks, openChecks}
 use Rattle.analysis.proofs.load.open_file.Needs as need
 
 pub returns-in-Break-header : need.returns-in-Break-header

@@ -11,23 +11,22 @@ use Rattle.analysis.specs.Answers.{figuresAt}
 use Rattle.analysis.proofs.Listing.{figures-there, figures-past, figures-none}
 use Rattle.analysis.proofs.loaded.Loaded.figures.Needs as need
 
-pub returns-then-flow-len : need.returns-then-flow-len
-returns-then-flow-len c =
+pub returns-then-flow-flows : need.returns-then-flow-flows
+returns-then-flow-flows c =
     let rows = vec-items (c .args .self .now .rows) in
-    let held = c .args .self .now .rows .ok .0 in
-    elim (or-cases (ltb (c .args .flow) 1) (ltb (c .len .result) (c .args .flow)) (c .if-flow-len .taken)) [
+    elim (or-cases (ltb (c .args .flow) 1) (ltb (c .flows .result) (c .args .flow)) (c .if-flow-flows .taken)) [
       | inl low ↦
           let first : c .args .flow ≡ 0 = omega (arith, ltb-true (c .args .flow) 1 low) in
           sym (ap (figuresAt rows) first ∙ figures-none rows)
-      | inr high ↦ sym (figures-past rows (c .args .flow) (omega (arith, ltb-true (c .len .result) (c .args .flow) high, c .len .ensures, held)))
+      | inr high ↦ sym (figures-past rows (c .args .flow) (omega (arith, ltb-true (c .flows .result) (c .args .flow) high, c .flows .ensures)))
     ]
 
 pub returns : need.returns
 returns c =
     let row = c .index-row .result .now in
     let rows = vec-items (c .args .self .now .rows) in
-    let test = or-parts (ltb (c .args .flow) 1) (ltb (c .len .result) (c .args .flow)) (c .if-flow-len .left) in
+    let test = or-parts (ltb (c .args .flow) 1) (ltb (c .flows .result) (c .args .flow)) (c .if-flow-flows .left) in
     let low = ltb-false (c .args .flow) 1 (test .0) in
-    let high = ltb-false (c .len .result) (c .args .flow) (test .1) in
-    let there = figures-there rows (c .args .flow) row low (omega (arith, high, c .len .ensures, c .args .self .now .rows .ok .0)) (c .index-row .ensures) in
-    ap (λ (n : ℕ). Some (record { hops = n; parts = row .parts; alone = row .alone; bound = row .bound; rounds = row .rounds })) (c .len-2 .ensures) ∙ there
+    let high = ltb-false (c .flows .result) (c .args .flow) (test .1) in
+    let there = figures-there rows (c .args .flow) row low (omega (arith, high, c .flows .ensures)) (c .index-row .ensures) in
+    ap (λ (n : ℕ). Some (record { hops = n; parts = row .parts; alone = row .alone; bound = row .bound; rounds = row .rounds })) (c .len .ensures) ∙ there
