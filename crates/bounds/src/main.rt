@@ -1,27 +1,10 @@
 // Reads a flow table from standard input and prints the figures of each flow, or why the table is refused.
 use analysis::figures::Figures;
-use analysis::load::load;
 use analysis::loaded::Loaded;
-use listed::Listed;
-use listed::answers::ListedFabric;
-use mesh::mesh::Mesh;
-use mesh::mesh::routes::MeshFabric;
-use std::alloc::Global;
+use files::load_file;
 use std::error::AnyError;
 use std::io::Read;
-use table::fault::LoadFault;
 use table::fault::LoadFaultDisplay;
-use table::header::Header;
-
-// A mesh where the table lists no links, its own links and routes otherwise; 128 intervals.
-fn load_file(heap: Global, file: &[u8]) -> Result<Loaded, LoadFault> {
-    if Header::read(file).links == 0 {
-        let mesh = Mesh::from_file(file)?;
-        return load(heap, file, &mesh, 128);
-    }
-    let listed = Listed::from_file(heap, file)?;
-    load(heap, file, &listed, 128)
-}
 
 fn print_figures(rt: &LibcRuntime, flow: usize, figures: &Figures) -> Result<(), AnyError> {
     let hops = figures.hops;
