@@ -1,0 +1,5 @@
+pub mod Refusals
+pub mod Fronts
+pub mod LevelLists
+pub mod SetBits
+pub mod NodePulls

@@ -1,0 +1,4 @@
+pub mod Levels
+pub mod Faults
+pub mod Lines
+pub mod Pulls
