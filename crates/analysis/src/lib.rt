@@ -1,4 +1,6 @@
 // Loading a flow table: its checks, and the figures of each flow.
+#![tactic(auto)]
+
 pub mod above;
 mod bounding;
 mod checks;

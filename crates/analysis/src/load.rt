@@ -37,9 +37,9 @@ pub fn load<F: Fabric>(
     fabric: &F,
     limit: usize,
 ) -> Result<Loaded, LoadFault>
-    ensures answer { Builds (first_fault (load_checks file.now (nodes fabric.now) (route fabric.now) limit)) (Loads file.now (route fabric.now)) result }
-    ensures memory { result ≡ Err NoMemory → first_fault (open_checks (length file.now) limit (nodes fabric.now) (header_of file.now)) ≡ None }
-    ensures exact { OnOk result (Exactly (timing_of file.now (route fabric.now))) }
+    ensures answer { Builds (first_fault (load_checks file.now (F.nodes fabric.now) (F.route fabric.now) limit)) (Loads file.now (F.route fabric.now)) result }
+    ensures memory { result ≡ Err NoMemory → first_fault (open_checks (length file.now) limit (F.nodes fabric.now) (header_of file.now)) ≡ None }
+    ensures exact { OnOk result (Exactly (timing_of file.now (F.route fabric.now))) }
 {
     let nodes = fabric.node_count();
     let header = open_file(file, nodes, limit)?;

@@ -31,7 +31,7 @@ fn take_route<F: Fabric>(
     flow: &FlowRecord,
 ) -> Result<Path, LoadFault>
     requires { number ≤ 128 }
-    ensures { links_taken result ≡ taken header.now number (route fabric.now number flow.now.source flow.now.destination) }
+    ensures { links_taken result ≡ taken header.now number (F.route fabric.now number flow.now.source flow.now.destination) }
 {
     let asked = Path::take(
         fabric,
@@ -124,7 +124,7 @@ fn load_row<F: Fabric>(
     requires flit { 1 ≤ profile.now.flit }
     requires apart { Apart rows.now }
     requires few { length rows.now < 128 }
-    ensures { (rs : List FlowRecord) → length rows.now < length rs → record_of rs (length rows.now + 1) ≡ flow → RowsFit slot.now profile.now rs (route fabric.now) (length rows.now) rows.now → Builds (first_fault (route_checks_of header.now slot.now profile.now rs (route fabric.now) (length rows.now + 1))) (RowFits slot.now profile.now rs (route fabric.now) (length rows.now + 1)) result }
+    ensures { (rs : List FlowRecord) → length rows.now < length rs → record_of rs (length rows.now + 1) ≡ flow → RowsFit slot.now profile.now rs (F.route fabric.now) (length rows.now) rows.now → Builds (first_fault (route_checks_of header.now slot.now profile.now rs (F.route fabric.now) (length rows.now + 1))) (RowFits slot.now profile.now rs (F.route fabric.now) (length rows.now + 1)) result }
 {
     let number = rows.len() + 1;
     let path = take_route(fabric, header, number, &flow)?;
@@ -148,7 +148,7 @@ pub(crate) fn load_rows<F: Fabric>(
     requires flit { 1 ≤ profile.now.flit }
     requires apart { (k : ℕ) → k < length records.now → 1 ≤ (slice_index_or records.now k no_record).separation }
     requires few { length records.now ≤ 128 }
-    ensures { Builds (first_fault (each_flow (route_checks_of header.now slot.now profile.now records.now (route fabric.now)) (length records.now))) (λ v. RowsFit slot.now profile.now records.now (route fabric.now) (length records.now) v.items) result }
+    ensures { Builds (first_fault (each_flow (route_checks_of header.now slot.now profile.now records.now (F.route fabric.now)) (length records.now))) (λ v. RowsFit slot.now profile.now records.now (F.route fabric.now) (length records.now) v.items) result }
 {
     let mut rows = Vec::new(heap);
     for flow in records {

@@ -1,4 +1,6 @@
 // Reads a flow table from standard input and prints the figures of each flow, or why the table is refused.
+#![tactic(auto)]
+
 use analysis::figures::Figures;
 use analysis::loaded::Loaded;
 use anyhow::anyhow;

@@ -1,4 +1,6 @@
 // The calls of a run: what they are handed, what they answer, and the ledger's records.
+#![tactic(auto)]
+
 pub mod event;
 pub mod record;
 pub mod refusal;

@@ -1,4 +1,5 @@
 // Compares the library with a second calculation over many tables.
+#![tactic(auto)]
 
 mod answer;
 mod bench;

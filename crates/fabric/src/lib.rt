@@ -1,4 +1,6 @@
 // What a fabric is: nodes, links and routes, with the laws that every route keeps.
+#![tactic(auto)]
+
 pub mod fabric;
 pub mod fault;
 pub mod path;

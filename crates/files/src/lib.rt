@@ -1,4 +1,6 @@
 // Loading a flow table over the fabric that it means.
+#![tactic(auto)]
+
 ghost use Rattle.std.specs.Prelude.{◌≡◌, ◌*◌, OnOk};
 ghost use Rattle.table.specs.File.{header_of};
 ghost use Rattle.table.specs.Checks.{first_fault};

@@ -1,4 +1,6 @@
 // What a run is after any list of calls, and what it promises: each function carries a theorem in its contract and does nothing else.
+#![tactic(auto)]
+
 ghost use Rattle.history.specs.Begun.{LoadBegins};
 ghost use Rattle.history.specs.Theorems.{ReleaseUpholds, ArbitrateUpholds, InjectUpholds, AbandonUpholds, ReportUpholds, VerdictUpholds};
 

@@ -9,15 +9,15 @@ use medium::medium::Medium;
 
 // The node pulls the last interval if `pulls` says so, and keeps still otherwise.
 pub fn pull_if<M: Medium>(medium: &mut M, node: usize, pulls: bool) -> Result<(), MediumFault>
-    ensures answer { result ≡ may_pull_if (length (levels medium.old)) node pulls }
-    ensures after { levels medium.new ≡ pulled_if (levels medium.old) node pulls }
+    ensures answer { result ≡ may_pull_if (length (M.levels medium.old)) node pulls }
+    ensures after { M.levels medium.new ≡ pulled_if (M.levels medium.old) node pulls }
 {
     if pulls { medium.pull(node) } else { Ok(()) }
 }
 
 // Whether interval k is open and nobody pulled it.
 pub fn is_quiet<M: Medium>(medium: &M, k: usize) -> bool
-    ensures { result ≡ quiet_at (read_at (levels medium.now) k) }
+    ensures { result ≡ quiet_at (read_at (M.levels medium.now) k) }
 {
     match medium.read(k) {
         Some(Level::Recessive) => true,
@@ -28,7 +28,7 @@ pub fn is_quiet<M: Medium>(medium: &M, k: usize) -> bool
 
 // How many intervals are open, found by reading. Who counts them while opening needs no such search.
 pub fn count<M: Medium>(medium: &M) -> usize
-    ensures { result ≡ length (levels medium.now) }
+    ensures { result ≡ length (M.levels medium.now) }
 {
     let limit = medium.limit();
     for k in 0..limit {

@@ -19,7 +19,7 @@ pub struct Puller {
 
 // Each of the pullers in turn pulls the last interval or keeps still. A node that there is not is refused, and changes nothing.
 fn pull_all<M: Medium>(medium: &mut M, pullers: &[Puller])
-    ensures { levels medium.new ≡ pressed (levels medium.old) (some_pull pullers.now) }
+    ensures { M.levels medium.new ≡ pressed (M.levels medium.old) (some_pull pullers.now) }
 {
     for puller in pullers {
         let _ = pull_if(medium, puller.node, puller.pulls);
@@ -28,7 +28,7 @@ fn pull_all<M: Medium>(medium: &mut M, pullers: &[Puller])
 
 // The level of interval k. One that is not open counts as recessive.
 fn level_at<M: Medium>(medium: &M, k: usize) -> Level
-    ensures { result ≡ unwrap_or (read_at (levels medium.now) k) Recessive }
+    ensures { result ≡ unwrap_or (read_at (M.levels medium.now) k) Recessive }
 {
     medium.read(k).unwrap_or(Level::Recessive)
 }
@@ -36,8 +36,8 @@ fn level_at<M: Medium>(medium: &M, k: usize) -> Level
 // Opens an interval, lets the pullers pull it in turn, and reads its level: dominant exactly where one of them pulls and is a node that there
 // is. At the limit it is refused, and then nothing changes.
 pub fn interval<M: Medium>(medium: &mut M, pullers: &[Puller]) -> Result<Level, MediumFault>
-    ensures answer { result ≡ heard most (levels medium.old) pullers.now }
-    ensures after { levels medium.new ≡ held most (levels medium.old) pullers.now }
+    ensures answer { result ≡ heard M.most (M.levels medium.old) pullers.now }
+    ensures after { M.levels medium.new ≡ held M.most (M.levels medium.old) pullers.now }
 {
     let place = count(medium);
     medium.open()?;

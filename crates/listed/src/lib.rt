@@ -1,4 +1,6 @@
 // The listed fabric: the links and routes that a file lists.
+#![tactic(auto)]
+
 ghost use Rattle.std.specs.Prelude.{◌≤◌, length};
 
 use fabric::route::Ends;

@@ -1,4 +1,6 @@
 // Drives both media through the same calls, compares them with a naive list, and prints what it did.
+#![tactic(auto)]
+
 use anyhow::anyhow;
 use medium::bank::NodeBank;
 use medium::line::Line;

@@ -1,4 +1,6 @@
 // The theory of packets: each function carries a theorem in its contract and does nothing else.
+#![tactic(auto)]
+
 ghost use Rattle.packets.specs.Calls.{CallsInBound, NextFree, RowsTell, OpenPlaced, Decided, FlowsKnown};
 ghost use Rattle.packets.specs.Statement.{InBound, InSlots, NeverOpen};
 

@@ -29,7 +29,7 @@ fn denies(above: &Above, flow: usize, row: &FlowRow) -> bool
 // The source of each of the first k flows pulls the last interval or keeps still.
 fn press<M: Medium>(medium: &mut M, above: &Above, rows: &[FlowRow], k: usize)
     requires { k ≤ length rows.now }
-    ensures { levels medium.new ≡ pressed (levels medium.old) (blocked above.now (grants_of rows.now) k) }
+    ensures { M.levels medium.new ≡ pressed (M.levels medium.old) (blocked above.now (grants_of rows.now) k) }
 {
     for h in 0..k {
         let row = &rows[h];
@@ -41,9 +41,9 @@ fn press<M: Medium>(medium: &mut M, above: &Above, rows: &[FlowRow], k: usize)
 // Runs the interval of the flow in row k, and answers whether the flow is granted.
 fn run_interval<M: Medium>(medium: &mut M, rows: &[FlowRow], k: usize) -> bool
     requires within { k < length rows.now }
-    requires before { length (levels medium.old) ≡ min k most }
-    ensures answer { result ≡ granting most (take k (grants_of rows.now)) (slice_index_or rows.now k no_row) }
-    ensures after { levels medium.new ≡ (if nat_lt k most then levels medium.old ++ level_of (not result) ∷ [] else levels medium.old) }
+    requires before { length (M.levels medium.old) ≡ min k M.most }
+    ensures answer { result ≡ granting M.most (take k (grants_of rows.now)) (slice_index_or rows.now k no_row) }
+    ensures after { M.levels medium.new ≡ (if nat_lt k M.most then M.levels medium.old ++ level_of (not result) ∷ [] else M.levels medium.old) }
 {
     if medium.open().is_err() {
         return false;
@@ -56,8 +56,8 @@ fn run_interval<M: Medium>(medium: &mut M, rows: &[FlowRow], k: usize) -> bool
 
 // Decides who is granted in the slot: the flows have their intervals in turn, and each row is marked.
 pub fn decide<M: Medium>(medium: &mut M, rows: &mut Rows)
-    ensures rows { rows.new.items.items ≡ decided most [] rows.old.items.items }
-    ensures levels { levels medium.new ≡ levels_of most (decided most [] rows.old.items.items) }
+    ensures rows { rows.new.items.items ≡ decided M.most [] rows.old.items.items }
+    ensures levels { M.levels medium.new ≡ levels_of M.most (decided M.most [] rows.old.items.items) }
 {
     medium.clear();
     for k in 0..rows.len() {

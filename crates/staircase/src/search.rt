@@ -31,8 +31,8 @@ pub struct Climb {
 // The least solution up to `most`: evaluates at the ground, and then at each result, until a result
 // equals its argument or passes `most`.
 pub fn least_solution<S: Staircase>(stairs: &S, most: u32) -> Climb
-    ensures answer { result ≡ climbed (value stairs.now) (ground stairs.now) most }
-    ensures least { Settles (value stairs.now) most result.least }
+    ensures answer { result ≡ climbed (S.value stairs.now) (S.ground stairs.now) most }
+    ensures least { Settles (S.value stairs.now) most result.least }
 {
     let mut x = stairs.ground();
     let mut rounds = 0;

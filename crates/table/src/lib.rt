@@ -1,4 +1,6 @@
 // The flow table: what its bytes mean, and the checks of its header and sections.
+#![tactic(auto)]
+
 mod bytes;
 pub mod checks;
 pub mod fault;

@@ -2,6 +2,8 @@
 //
 // A loop that also counts offers the items one by one. The tightest of a whole list is the same steps in turn, and its contract says what
 // they add up to.
+#![tactic(auto)]
+
 pub mod offers;
 pub mod ranked;
 pub mod whole;

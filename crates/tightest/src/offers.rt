@@ -19,7 +19,7 @@ impl<T: Ranked> Tightest<T> {
 
     // The item is kept if it comes before the best so far, so that of level items the earliest stays.
     pub fn offer(&mut self, item: T)
-        ensures { self.new.best ≡ tighter before self.old.best item }
+        ensures { self.new.best ≡ tighter T.before self.old.best item }
     {
         let best = match self.best {
             Some(kept) => { if item.comes_before(&kept) { item } else { kept } }
@@ -30,7 +30,7 @@ impl<T: Ranked> Tightest<T> {
 
     // Offers the item, if there is one.
     pub fn offer_if(&mut self, item: Option<T>)
-        ensures { self.new.best ≡ tighter_if before self.old.best item }
+        ensures { self.new.best ≡ tighter_if T.before self.old.best item }
     {
         if let Some(item) = item {
             self.offer(item);

@@ -7,8 +7,8 @@ use crate::ranked::Ranked;
 
 // Offers the items in turn. What is found is one of them, none of them comes before it, and it comes before those that stand earlier.
 pub fn tightest_of<T: Ranked>(items: &[T]) -> Option<T>
-    ensures answer { result ≡ tightest_of before items.now }
-    ensures tightest { Tells before items.now result }
+    ensures answer { result ≡ tightest_of T.before items.now }
+    ensures tightest { Tells T.before items.now result }
 {
     let mut offers = Tightest::new();
     for item in items {

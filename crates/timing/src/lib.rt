@@ -1,4 +1,6 @@
 // The theory of the bounds: each function carries a theorem in its contract and does nothing else.
+#![tactic(auto)]
+
 ghost use Rattle.timing.specs.Figures.{FiguresExact};
 ghost use Rattle.timing.specs.Staircase.{SearchFinds, DemandRises};
 

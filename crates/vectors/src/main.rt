@@ -1,4 +1,6 @@
 // Runs the worked cases, which are theorems about the definitions, through the library.
+#![tactic(auto)]
+
 mod case;
 mod cases;
 

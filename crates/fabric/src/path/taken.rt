@@ -14,7 +14,7 @@ impl Path {
         source: usize,
         destination: usize,
     ) -> Result<Path, RouteFault>
-        ensures { stored result ≡ route fabric.now flow source destination }
+        ensures { stored result ≡ F.route fabric.now flow source destination }
     {
         let len = fabric.route_len(flow, source, destination)?;
         let mut links = [0; 64];

@@ -11,49 +11,49 @@ use medium::medium::Medium;
 impl<M: Medium> Run<M> {
     // How many flows there are.
     pub fn flows(&self) -> usize
-        ensures { result ≡ length (state_of levels self.now).rows }
+        ensures { result ≡ length (state_of M.levels self.now).rows }
     {
         self.rows.len()
     }
 
     // The slots that were injected since the load.
     pub fn slot(&self) -> u32
-        ensures { result ≡ (state_of levels self.now).slot }
+        ensures { result ≡ (state_of M.levels self.now).slot }
     {
         self.clock.slot
     }
 
     // The cycles of a slot.
     pub fn slot_length(&self) -> u32
-        ensures { result ≡ (state_of levels self.now).times.length }
+        ensures { result ≡ (state_of M.levels self.now).times.length }
     {
         self.clock.times.length
     }
 
     // The count of the ledger's records.
     pub fn records(&self) -> usize
-        ensures { result ≡ (state_of levels self.now).count }
+        ensures { result ≡ (state_of M.levels self.now).count }
     {
         self.count
     }
 
     // Whether a flow wanted in the slot last arbitrated.
     pub fn wanted(&self, flow: usize) -> bool
-        ensures { result ≡ (known (state_of levels self.now) flow && (row_of (state_of levels self.now) flow).progress.wanted) }
+        ensures { result ≡ (known (state_of M.levels self.now) flow && (row_of (state_of M.levels self.now) flow).progress.wanted) }
     {
         self.knows(flow) && self.rows.as_slice()[flow - 1].progress.wanted
     }
 
     // Whether a flow was granted in the slot last arbitrated.
     pub fn granted(&self, flow: usize) -> bool
-        ensures { result ≡ (known (state_of levels self.now) flow && (row_of (state_of levels self.now) flow).progress.granted) }
+        ensures { result ≡ (known (state_of M.levels self.now) flow && (row_of (state_of M.levels self.now) flow).progress.granted) }
     {
         self.knows(flow) && self.rows.as_slice()[flow - 1].progress.granted
     }
 
     // The level of interval k of the medium, from 0, or none where it was not opened.
     pub fn level(&self, k: usize) -> Option<Level>
-        ensures { result ≡ read_at (state_of levels self.now).levels k }
+        ensures { result ≡ read_at (state_of M.levels self.now).levels k }
     {
         self.medium.read(k)
     }

@@ -26,10 +26,10 @@ impl<M: Medium> Run<M> {
         fabric: &F,
         number: u32,
     ) -> Result<(), LoadFault>
-        ensures answer { Builds (first_fault (run_checks (state_of levels self.old) file.now (nodes fabric.now) (route fabric.now) most)) (λ _. Begun file.now (route fabric.now) number (state_of levels self.new)) result }
-        ensures same { is_ok result ≡ false → state_of levels self.new ≡ state_of levels self.old }
-        ensures memory { result ≡ Err NoMemory → first_fault (first_checks (state_of levels self.old) file.now (nodes fabric.now) most) ≡ None }
-        ensures exact { OnOk result (Exactly (timing_of file.now (route fabric.now))) }
+        ensures answer { Builds (first_fault (run_checks (state_of M.levels self.old) file.now (F.nodes fabric.now) (F.route fabric.now) M.most)) (λ _. Begun file.now (F.route fabric.now) number (state_of M.levels self.new)) result }
+        ensures same { is_ok result ≡ false → state_of M.levels self.new ≡ state_of M.levels self.old }
+        ensures memory { result ≡ Err NoMemory → first_fault (first_checks (state_of M.levels self.old) file.now (F.nodes fabric.now) M.most) ≡ None }
+        ensures exact { OnOk result (Exactly (timing_of file.now (F.route fabric.now))) }
     {
         if self.owed {
             return Err(LoadFault::Owed);
@@ -54,11 +54,11 @@ impl<M: Medium> Run<M> {
         fabric: &F,
         number: u32,
     ) -> Result<(), LoadFault>
-        ensures answer { Builds (first_fault (run_checks (state_of levels self.old) file.now (nodes fabric.now) (route fabric.now) most)) (λ _. Begun file.now (route fabric.now) number (state_of levels self.new)) result }
-        ensures same { is_ok result ≡ false → state_of levels self.new ≡ state_of levels self.old }
-        ensures memory { result ≡ Err NoMemory → first_fault (first_checks (state_of levels self.old) file.now (nodes fabric.now) most) ≡ None }
-        ensures exact { OnOk result (Exactly (timing_of file.now (route fabric.now))) }
-        ensures promise { OnOk result ((k : List Entry) → PromiseBegins most file.now (route fabric.now) (state_of levels self.new) k) }
+        ensures answer { Builds (first_fault (run_checks (state_of M.levels self.old) file.now (F.nodes fabric.now) (F.route fabric.now) M.most)) (λ _. Begun file.now (F.route fabric.now) number (state_of M.levels self.new)) result }
+        ensures same { is_ok result ≡ false → state_of M.levels self.new ≡ state_of M.levels self.old }
+        ensures memory { result ≡ Err NoMemory → first_fault (first_checks (state_of M.levels self.old) file.now (F.nodes fabric.now) M.most) ≡ None }
+        ensures exact { OnOk result (Exactly (timing_of file.now (F.route fabric.now))) }
+        ensures promise { OnOk result ((k : List Entry) → PromiseBegins M.most file.now (F.route fabric.now) (state_of M.levels self.new) k) }
     {
         self.load_step(heap, file, fabric, number)
     }

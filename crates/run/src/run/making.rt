@@ -21,7 +21,7 @@ const NO_TIME: Slot = Slot {
 impl<M: Medium> Run<M> {
     // An empty run: no flows, no records, ended.
     pub fn new(heap: Global, medium: M) -> Run<M>
-        ensures { state_of levels result ≡ empty_state (levels medium) }
+        ensures { state_of M.levels result ≡ empty_state (M.levels medium) }
     {
         Run {
             medium,

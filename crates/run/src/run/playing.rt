@@ -24,8 +24,8 @@ use table::fault::LoadFault;
 impl<M: Medium> Run<M> {
     // Arbitrates, and keeps of the slip what it names.
     fn play_arbitrate(&mut self) -> Event
-        ensures step { (k : List Entry) → StepsTo most result (state_of levels self.old) k (state_of levels self.new) k }
-        ensures promise { (k : List Entry) → Upholds most result (state_of levels self.old) k (state_of levels self.new) k }
+        ensures step { (k : List Entry) → StepsTo M.most result (state_of M.levels self.old) k (state_of M.levels self.new) k }
+        ensures promise { (k : List Entry) → Upholds M.most result (state_of M.levels self.old) k (state_of M.levels self.new) k }
         ensures call { call_of result ≡ Call.Arbitrate }
     {
         match self.arbitrate() {
@@ -41,8 +41,8 @@ impl<M: Medium> Run<M> {
 
     // Hands in a slip that names what is given.
     fn play_inject(&mut self, slip: SlipName, ledger: &mut [Record]) -> Event
-        ensures step { StepsTo most result (state_of levels self.old) ledger.old (state_of levels self.new) ledger.new }
-        ensures promise { Upholds most result (state_of levels self.old) ledger.old (state_of levels self.new) ledger.new }
+        ensures step { StepsTo M.most result (state_of M.levels self.old) ledger.old (state_of M.levels self.new) ledger.new }
+        ensures promise { Upholds M.most result (state_of M.levels self.old) ledger.old (state_of M.levels self.new) ledger.new }
         ensures call { call_of result ≡ Call.Inject slip }
     {
         match self.inject(Slip { name: slip }, ledger) {
@@ -61,8 +61,8 @@ impl<M: Medium> Run<M> {
     }
 
     fn play_abandon(&mut self, slip: SlipName) -> Event
-        ensures step { (k : List Entry) → StepsTo most result (state_of levels self.old) k (state_of levels self.new) k }
-        ensures promise { (k : List Entry) → Upholds most result (state_of levels self.old) k (state_of levels self.new) k }
+        ensures step { (k : List Entry) → StepsTo M.most result (state_of M.levels self.old) k (state_of M.levels self.new) k }
+        ensures promise { (k : List Entry) → Upholds M.most result (state_of M.levels self.old) k (state_of M.levels self.new) k }
         ensures call { call_of result ≡ Call.Abandon slip }
     {
         match self.abandon(Slip { name: slip }) {
@@ -82,8 +82,8 @@ impl<M: Medium> Run<M> {
 
     // Makes one call, and answers it with its answer.
     fn play_call(&mut self, call: Call, ledger: &mut [Record]) -> Event
-        ensures step { StepsTo most result (state_of levels self.old) ledger.old (state_of levels self.new) ledger.new }
-        ensures promise { Upholds most result (state_of levels self.old) ledger.old (state_of levels self.new) ledger.new }
+        ensures step { StepsTo M.most result (state_of M.levels self.old) ledger.old (state_of M.levels self.new) ledger.new }
+        ensures promise { Upholds M.most result (state_of M.levels self.old) ledger.old (state_of M.levels self.new) ledger.new }
         ensures call { call_of result ≡ call }
     {
         match call {
@@ -110,8 +110,8 @@ impl<M: Medium> Run<M> {
         requires none { events.old.items ≡ [] }
         requires room { length calls.now ≤ vec_capacity events.old }
         ensures all { map call_of events.new.items ≡ calls.now }
-        ensures ran { Ran most (reverse events.new.items) (state_of levels self.old) ledger.old (state_of levels self.new) ledger.new }
-        ensures since { (b : Table) → Since most b [] (state_of levels self.old) → Lists b [] ledger.old → Since most b (reverse events.new.items) (state_of levels self.new) × Lists b (reverse events.new.items) ledger.new }
+        ensures ran { Ran M.most (reverse events.new.items) (state_of M.levels self.old) ledger.old (state_of M.levels self.new) ledger.new }
+        ensures since { (b : Table) → Since M.most b [] (state_of M.levels self.old) → Lists b [] ledger.old → Since M.most b (reverse events.new.items) (state_of M.levels self.new) × Lists b (reverse events.new.items) ledger.new }
     {
         for call in calls {
             let event = self.play_call(*call, ledger);
@@ -130,8 +130,8 @@ impl<M: Medium> Run<M> {
         calls: &[Call],
         ledger: &mut [Record],
     ) -> Result<Vec<Event>, LoadFault>
-        ensures answer { Builds (first_fault (run_checks (state_of levels self.old) file.now (nodes fabric.now) (route fabric.now) most)) (λ events. Played most file.now (route fabric.now) number calls.now events.items ledger.old (state_of levels self.new) ledger.new) result }
-        ensures same { is_ok result ≡ false → (state_of levels self.new ≡ state_of levels self.old) × (ledger.new ≡ ledger.old) }
+        ensures answer { Builds (first_fault (run_checks (state_of M.levels self.old) file.now (F.nodes fabric.now) (F.route fabric.now) M.most)) (λ events. Played M.most file.now (F.route fabric.now) number calls.now events.items ledger.old (state_of M.levels self.new) ledger.new) result }
+        ensures same { is_ok result ≡ false → (state_of M.levels self.new ≡ state_of M.levels self.old) × (ledger.new ≡ ledger.old) }
     {
         let mut events = Vec::with_capacity(heap, calls.len())?;
         self.load(heap, file, fabric, number)?;

@@ -27,14 +27,14 @@ fn too_soon(row: &FlowRow, cycle: u64) -> bool
 impl<M: Medium> Run<M> {
     // Whether there is a flow with this number.
     pub(super) fn knows(&self, flow: usize) -> bool
-        ensures { result ≡ known (state_of levels self.now) flow }
+        ensures { result ≡ known (state_of M.levels self.now) flow }
     {
         (1 <= flow) & (flow <= self.rows.len())
     }
 
     // The checks of a release in their order, with a ledger of this length.
     fn check_release(&self, flow: usize, cycle: u64, len: usize) -> Result<(), Refusal>
-        ensures { result ≡ unless (first_refusal (release_checks (state_of levels self.now) len flow cycle)) tt }
+        ensures { result ≡ unless (first_refusal (release_checks (state_of M.levels self.now) len flow cycle)) tt }
     {
         if self.ended {
             return Err(Refusal::Ended);
@@ -73,7 +73,7 @@ impl<M: Medium> Run<M> {
         cycle: u64,
         ledger: &mut [Record],
     ) -> Result<(), Refusal>
-        ensures { Releases (state_of levels self.old) ledger.old flow cycle result (state_of levels self.new) ledger.new }
+        ensures { Releases (state_of M.levels self.old) ledger.old flow cycle result (state_of M.levels self.new) ledger.new }
     {
         self.check_release(flow, cycle, ledger.len())?;
         let place = self.count;
@@ -93,8 +93,8 @@ impl<M: Medium> Run<M> {
 
     // Accepts a packet of a flow, released at a cycle, into the slot, and appends its record to the ledger.
     pub fn release(&mut self, flow: usize, cycle: u64, ledger: &mut [Record]) -> Result<(), Refusal>
-        ensures after { Releases (state_of levels self.old) ledger.old flow cycle result (state_of levels self.new) ledger.new }
-        ensures promise { Upholds most (Released flow cycle result) (state_of levels self.old) ledger.old (state_of levels self.new) ledger.new }
+        ensures after { Releases (state_of M.levels self.old) ledger.old flow cycle result (state_of M.levels self.new) ledger.new }
+        ensures promise { Upholds M.most (Released flow cycle result) (state_of M.levels self.old) ledger.old (state_of M.levels self.new) ledger.new }
     {
         self.release_step(flow, cycle, ledger)
     }

@@ -19,7 +19,7 @@ use slots::injection::serve_all;
 
 impl<M: Medium> Run<M> {
     fn arbitrate_step(&mut self) -> Result<Slip, Refusal>
-        ensures { Arbitrates most (state_of levels self.old) (named result) (state_of levels self.new) }
+        ensures { Arbitrates M.most (state_of M.levels self.old) (named result) (state_of M.levels self.new) }
     {
         if self.ended {
             return Err(Refusal::Ended);
@@ -41,14 +41,14 @@ impl<M: Medium> Run<M> {
 
     // Whether a slip names this run and the slot that awaits its injection.
     fn awaits(&self, slip: &Slip) -> bool
-        ensures { result ≡ names (state_of levels self.now) slip.now.name }
+        ensures { result ≡ names (state_of M.levels self.now) slip.now.name }
     {
         let name = slip.name;
         self.owed & ((name.number == self.number) & (name.slot == self.clock.slot))
     }
 
     fn inject_step(&mut self, slip: Slip, ledger: &mut [Record]) -> Result<usize, (Refusal, Slip)>
-        ensures after { Injects (state_of levels self.old) ledger.old slip.name (bare result) (state_of levels self.new) ledger.new }
+        ensures after { Injects (state_of M.levels self.old) ledger.old slip.name (bare result) (state_of M.levels self.new) ledger.new }
         ensures back { HandedBack slip result }
     {
         if !self.awaits(&slip) {
@@ -65,7 +65,7 @@ impl<M: Medium> Run<M> {
     }
 
     fn abandon_step(&mut self, slip: Slip) -> Result<(), (Refusal, Slip)>
-        ensures after { Abandons (state_of levels self.old) slip.name (bare result) (state_of levels self.new) }
+        ensures after { Abandons (state_of M.levels self.old) slip.name (bare result) (state_of M.levels self.new) }
         ensures back { HandedBack slip result }
     {
         if !self.awaits(&slip) {
@@ -81,26 +81,26 @@ impl<M: Medium> Run<M> {
 impl<M: Medium> Run<M> {
     // Decides who is granted in the slot, over the medium, and answers the right to inject it.
     pub fn arbitrate(&mut self) -> Result<Slip, Refusal>
-        ensures after { Arbitrates most (state_of levels self.old) (named result) (state_of levels self.new) }
-        ensures promise { (k : List Entry) → Upholds most (Arbitrated (named result)) (state_of levels self.old) k (state_of levels self.new) k }
+        ensures after { Arbitrates M.most (state_of M.levels self.old) (named result) (state_of M.levels self.new) }
+        ensures promise { (k : List Entry) → Upholds M.most (Arbitrated (named result)) (state_of M.levels self.old) k (state_of M.levels self.new) k }
     {
         self.arbitrate_step()
     }
 
     // Spends the slip: each wanted flow's record gains a grant or a denial. Answers how many were granted; a refusal hands the slip back.
     pub fn inject(&mut self, slip: Slip, ledger: &mut [Record]) -> Result<usize, (Refusal, Slip)>
-        ensures after { Injects (state_of levels self.old) ledger.old slip.name (bare result) (state_of levels self.new) ledger.new }
+        ensures after { Injects (state_of M.levels self.old) ledger.old slip.name (bare result) (state_of M.levels self.new) ledger.new }
         ensures back { HandedBack slip result }
-        ensures promise { Upholds most (Injected slip.name (bare result)) (state_of levels self.old) ledger.old (state_of levels self.new) ledger.new }
+        ensures promise { Upholds M.most (Injected slip.name (bare result)) (state_of M.levels self.old) ledger.old (state_of M.levels self.new) ledger.new }
     {
         self.inject_step(slip, ledger)
     }
 
     // Spends the slip, and ends the run; a refusal hands the slip back.
     pub fn abandon(&mut self, slip: Slip) -> Result<(), (Refusal, Slip)>
-        ensures after { Abandons (state_of levels self.old) slip.name (bare result) (state_of levels self.new) }
+        ensures after { Abandons (state_of M.levels self.old) slip.name (bare result) (state_of M.levels self.new) }
         ensures back { HandedBack slip result }
-        ensures promise { (k : List Entry) → Upholds most (Abandoned slip.name (bare result)) (state_of levels self.old) k (state_of levels self.new) k }
+        ensures promise { (k : List Entry) → Upholds M.most (Abandoned slip.name (bare result)) (state_of M.levels self.old) k (state_of M.levels self.new) k }
     {
         self.abandon_step(slip)
     }

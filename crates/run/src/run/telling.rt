@@ -18,33 +18,33 @@ use reports::verdict::verdict as verdict_of;
 
 impl<M: Medium> Run<M> {
     fn report_step(&self, ledger: &[Record]) -> Result<Report, Refusal>
-        ensures answer { Reports (state_of levels self.now) ledger.now result (state_of levels self.now) ledger.now }
-        ensures tightest { IfOk result (λ t. TightestRecord (state_of levels self.now).rows (take self.now.count ledger.now) t.tightest) }
+        ensures answer { Reports (state_of M.levels self.now) ledger.now result (state_of M.levels self.now) ledger.now }
+        ensures tightest { IfOk result (λ t. TightestRecord (state_of M.levels self.now).rows (take self.now.count ledger.now) t.tightest) }
     {
         report_of(&self.rows, self.count, ledger)
     }
 
     // How many packets were accepted, arrived and are open, as the ledger's records say, and which came closest to its bound.
     pub fn report(&self, ledger: &[Record]) -> Result<Report, Refusal>
-        ensures answer { Reports (state_of levels self.now) ledger.now result (state_of levels self.now) ledger.now }
-        ensures tightest { IfOk result (λ t. TightestRecord (state_of levels self.now).rows (take self.now.count ledger.now) t.tightest) }
-        ensures promise { Upholds most (Reported result) (state_of levels self.now) ledger.now (state_of levels self.now) ledger.now }
+        ensures answer { Reports (state_of M.levels self.now) ledger.now result (state_of M.levels self.now) ledger.now }
+        ensures tightest { IfOk result (λ t. TightestRecord (state_of M.levels self.now).rows (take self.now.count ledger.now) t.tightest) }
+        ensures promise { Upholds M.most (Reported result) (state_of M.levels self.now) ledger.now (state_of M.levels self.now) ledger.now }
     {
         self.report_step(ledger)
     }
 
     fn verdict_step(&self, flow: usize) -> Result<Verdict, Refusal>
-        ensures answer { Tells (state_of levels self.now) flow result (state_of levels self.now) }
-        ensures tightest { IfOk result (λ v. TightestFlow (state_of levels self.now).rows v.tightest) }
+        ensures answer { Tells (state_of M.levels self.now) flow result (state_of M.levels self.now) }
+        ensures tightest { IfOk result (λ v. TightestFlow (state_of M.levels self.now).rows v.tightest) }
     {
         verdict_of(&self.rows, flow)
     }
 
     // The figures of a flow, and the flow whose bound comes closest to its deadline.
     pub fn verdict(&self, flow: usize) -> Result<Verdict, Refusal>
-        ensures answer { Tells (state_of levels self.now) flow result (state_of levels self.now) }
-        ensures tightest { IfOk result (λ v. TightestFlow (state_of levels self.now).rows v.tightest) }
-        ensures promise { (k : List Entry) → Upholds most (Told flow result) (state_of levels self.now) k (state_of levels self.now) k }
+        ensures answer { Tells (state_of M.levels self.now) flow result (state_of M.levels self.now) }
+        ensures tightest { IfOk result (λ v. TightestFlow (state_of M.levels self.now).rows v.tightest) }
+        ensures promise { (k : List Entry) → Upholds M.most (Told flow result) (state_of M.levels self.now) k (state_of M.levels self.now) k }
     {
         self.verdict_step(flow)
     }
