@@ -5,7 +5,7 @@ use Rattle.fabric.proofs.path.Path.take.Goals as goal
 
 pub loop-k-init : goal.loop-k-init
 loop-k-init g c =
-    let got = length_ok _ _ c.in-ok-len.ensures in
+    let got = length_ok _ _ c.in_ok-len.ensures in
     (got.0, got.1, got.2, (g.met.F.Fabric.lawful _ _ _ _ _ got.1).few, search rules, refl)
 
 pub loop-k-preserved : goal.loop-k-preserved
@@ -29,5 +29,5 @@ returns g c =
     let inv = c.loop-k.invariant in
     let p = inv.0 in
     let done : length p ≤ c.loop-k.k = omega arith in
-    let same : c.in-ok-len.len ≡ c.loop-k.k = omega arith in
+    let same : c.in_ok-len.len ≡ c.loop-k.k = omega arith in
     ap Ok (ap (λ n. take n c.loop-k.links) same ∙ inv.5 ∙ take_all _ _ done) ∙ sym inv.1

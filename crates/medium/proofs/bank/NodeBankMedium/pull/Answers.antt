@@ -24,7 +24,7 @@ invariant-of-self c =
 pub returns : goal.returns
 returns c =
     let s = c.args.self.now in
-    let may : (0 < s.count) × (c.args.node < 256) = pull_accepted _ _ c.in-ok-check-pull.ensures in
+    let may : (0 < s.count) × (c.args.node < 256) = pull_accepted _ _ c.in_ok-check_pull.ensures in
     let ws = s.words.bits in
     let wide = levels_length (pulled_at ws) s.count in
     let last = pull_last ws c.args.node s.count s.words.long (omega arith) (omega arith) s.few in

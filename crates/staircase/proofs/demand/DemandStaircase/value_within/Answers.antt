@@ -17,8 +17,8 @@ loop-term-init c = (c.if-sum-most.false, omega arith)
 pub loop-term-preserved : goal.loop-term-preserved
 loop-term-preserved c =
     let ts = vec_items c.args.self.now.terms in
-    let more = sum_more c.args.x ts _ c.loop-term.term-index c.term-item.result c.as-slice-term-items.ensures.value c.loop-term-test.true c.term-item.is in
-    let got = within_some _ _ _ c.in-ok-charge.ensures in
+    let more = sum_more c.args.x ts _ c.loop-term.term-index c.term-item.result c.as_slice-term-items.ensures.value c.loop-term-test.true c.term-item.is in
+    let got = within_some _ _ _ c.in_ok-charge.ensures in
     let inv = c.loop-term.invariant in
     (omega (arith, got.1, inv.0), omega (arith, got.0, inv.1, more))
 
@@ -39,6 +39,6 @@ returns c =
     let d = c.args.self.now in
     let ts = vec_items d.terms in
     let inv = c.loop-term.invariant in
-    let past : length ts ≤ c.loop-term.term-index = omega (arith, c.loop-term-test.false, ap length c.as-slice-term-items.ensures.value) in
+    let past : length ts ≤ c.loop-term.term-index = omega (arith, c.loop-term-test.false, ap length c.as_slice-term-items.ensures.value) in
     let all = ap (sum_by (charge c.args.x)) (take_all c.loop-term.term-index ts past) in
     fits _ _ _ (omega (arith, inv.1, all)) (omega (arith, inv.0, inv.1, all))
