@@ -9,11 +9,11 @@ use Rattle.timing.specs.Staircase.{Least, climb, rounds}
 abbrev pub within : ℕ → ℕ → Option ℕ
 within most v = cond (nat_le v most) (Some v) None
 
--- nothing is evaluated where even the ground passes the limit
+-- nothing is evaluated where even the floor passes the limit
 abbrev pub climbed : (ℕ → ℕ) → ℕ → ℕ → Climb
-climbed f ground most =
-    cond (nat_le ground most)
-    (record { least = climb f most (suc most) ground; rounds = rounds f most (suc most) ground })
+climbed f floor most =
+    cond (nat_le floor most)
+    (record { least = climb f most (suc most) floor; rounds = rounds f most (suc most) floor })
     (record { least = None; rounds = 0 })
 
 -- the least of all solutions if it is within the limit, or none where every solution passes the limit

@@ -15,6 +15,6 @@ seen (Some t) = Some (t.jitter, t.separation, t.cost)
 abbrev pub term_for : ℕ → ℕ → ℕ → Option (ℕ × ℕ × ℕ)
 term_for jitter separation cost = cond (separation == 0) None (Some (jitter, separation, cost))
 
--- the ground, and what each term charges
+-- the floor, and what each term charges
 unfoldable pub demanded : ℕ → List Term → ℕ → ℕ
-demanded ground terms x = ground + sum_by (charge x) terms
+demanded floor terms x = floor + sum_by (charge x) terms

@@ -37,7 +37,7 @@ impl Demand {
 impl Staircase for Demand {
     ghost value = { λ d. demanded d.ground d.terms.items };
 
-    ghost ground = { λ d. d.ground };
+    ghost floor = { λ d. d.ground };
 
     ghost rises = { λ s x y le. demanded_rises s.ground s.terms.items x y le };
 

@@ -6,11 +6,11 @@ ghost use Rattle.staircase.specs.Climbs.{within, climbed, Settles};
 pub trait Staircase {
     ghost value: { Self → ℕ → ℕ };
 
-    // No value lies below the ground.
-    ghost ground: { Self → ℕ };
+    // No value lies below the floor.
+    ghost floor: { Self → ℕ };
 
     fn ground(&self) -> u32
-        ensures { result ≡ ground self.now };
+        ensures { result ≡ floor self.now };
 
     // The value at x, or none where it passes `most`.
     fn value_within(&self, x: u32, most: u32) -> Option<u32>
@@ -18,7 +18,7 @@ pub trait Staircase {
 
     ghost rises: { (s : Self) (x y : ℕ) → x ≤ y → value s x ≤ value s y };
 
-    ghost grounded: { (s : Self) (x : ℕ) → ground s ≤ value s x };
+    ghost grounded: { (s : Self) (x : ℕ) → floor s ≤ value s x };
 }
 
 // What a search found, and how many evaluations it took.
@@ -31,7 +31,7 @@ pub struct Climb {
 // The least solution up to `most`: evaluates at the ground, and then at each result, until a result
 // equals its argument or passes `most`.
 pub fn least_solution<S: Staircase>(stairs: &S, most: u32) -> Climb
-    ensures answer { result ≡ climbed (S.value stairs.now) (S.ground stairs.now) most }
+    ensures answer { result ≡ climbed (S.value stairs.now) (S.floor stairs.now) most }
     ensures least { Settles (S.value stairs.now) most result.least }
 {
     let mut x = stairs.ground();

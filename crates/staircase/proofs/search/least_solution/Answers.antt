@@ -7,17 +7,17 @@ pub returns-then-x-most : goal.returns-then-x-most
 returns-then-x-most g c =
     let f = g.S.Staircase.value c.args.stairs.now in
     let m = g.met.S.Staircase in
-    let a = g.S.Staircase.ground c.args.stairs.now in
+    let a = g.S.Staircase.floor c.args.stairs.now in
     let past : c.args.most < a = omega (arith, c.ground-x.ensures, c.if-x-most.true) in
     let e = none_made f a _ past in
     record { answer = e; least = settled f a _ (m.rises _) (m.grounded _) _ e }
 
-pub returns-in-default : goal.returns-in-default
-returns-in-default g c =
+pub returns-in_default : goal.returns-in_default
+returns-in_default g c =
     let f = g.S.Staircase.value c.args.stairs.now in
     let m = g.met.S.Staircase in
     let at = c.loop-y.invariant in
-    let e = ends_past f _ _ at.0 _ _ at.1 (within_none _ _ c.in-default.ensures) in
+    let e = ends_past f _ _ at.0 _ _ at.1 (within_none _ _ c.in_default.ensures) in
     record { answer = e; least = settled f _ _ (m.rises _) (m.grounded _) _ e }
 
 pub returns-then-y-x : goal.returns-then-y-x

@@ -22,16 +22,16 @@ loop-term-preserved c =
     let inv = c.loop-term.invariant in
     (omega (arith, got.1, inv.0), omega (arith, got.0, inv.1, more))
 
-pub returns-in-err-charge : goal.returns-in-err-charge
+pub returns-in_err-charge : goal.returns-in_err-charge
 unfolding demanded
-returns-in-err-charge c =
+returns-in_err-charge c =
     let d = c.args.self.now in
     let ts = vec_items d.terms in
     let i = c.loop-term.term-index in
-    let more = sum_more c.args.x ts _ i c.term-item.result c.as-slice-term-items.ensures.value c.loop-term-test.true c.term-item.is in
-    let past = within_none _ _ c.in-err-charge.ensures in
+    let more = sum_more c.args.x ts _ i c.term-item.result c.as_slice-term-items.ensures.value c.loop-term-test.true c.term-item.is in
+    let past = within_none _ _ c.in_err-charge.ensures in
     let inv = c.loop-term.invariant in
-    c.from-residual.ensures ∙ passes _ _ (omega (arith, past, inv.0, inv.1, more, sum_by-take-le (charge c.args.x) ts (i + 1)))
+    c.from_residual.ensures ∙ passes _ _ (omega (arith, past, inv.0, inv.1, more, sum_by-take-le (charge c.args.x) ts (i + 1)))
 
 pub returns : goal.returns
 unfolding demanded
