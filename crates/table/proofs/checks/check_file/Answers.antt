@@ -4,31 +4,31 @@ use Rattle.table.specs.Checks.{checked_header, checked_file, first_fault, unless
 use Rattle.table.proofs.Firsts.{passed, failed, exits, unless_err, unless_ok, unless_value}
 use Rattle.table.proofs.checks.check_file.Goals as goal
 
-pub returns-in-err-header : goal.returns-in-err-header
+pub returns-in_err-header : goal.returns-in_err-header
 unfolding checked_header checked_file
-returns-in-err-header c =
+returns-in_err-header c =
     let n = length c.args.bytes.now in
     let h = header_of c.args.bytes.now in
-    exits _ _ h c.in-err-header.field-0.0 c.from-residual.ensures.1
-    (failed (header_checks n h) (section_checks n h) h _ c.in-err-header.ensures)
+    exits _ _ h c.in_err-header.field-0.0 c.from_residual.ensures.1
+    (failed (header_checks n h) (section_checks n h) h _ c.in_err-header.ensures)
 
-pub returns-in-err-check-sections : goal.returns-in-err-check-sections
+pub returns-in_err-check_sections : goal.returns-in_err-check_sections
 unfolding checked_header checked_file
-returns-in-err-check-sections c =
+returns-in_err-check_sections c =
     let n = length c.args.bytes.now in
     let h = header_of c.args.bytes.now in
-    let same = unless_value (first_fault (header_checks n h)) h _ c.in-ok-header.ensures in
-    exits _ _ h c.in-err-check-sections.field-0.0 c.from-residual-in-err-check-sections.ensures.1
-    (passed (header_checks n h) (section_checks n h) h _ c.in-ok-header.ensures
-    ∙ unless_err (first_fault (section_checks n h)) tt _ (c.in-err-check-sections.ensures ∙ ap (λ k. unless (first_fault (section_checks n k)) tt) same))
+    let same = unless_value (first_fault (header_checks n h)) h _ c.in_ok-header.ensures in
+    exits _ _ h c.in_err-check_sections.field-0.0 c.from_residual-in_err-check_sections.ensures.1
+    (passed (header_checks n h) (section_checks n h) h _ c.in_ok-header.ensures
+    ∙ unless_err (first_fault (section_checks n h)) tt _ (c.in_err-check_sections.ensures ∙ ap (λ k. unless (first_fault (section_checks n k)) tt) same))
 
 pub returns : goal.returns
 unfolding checked_header checked_file
 returns c =
     let n = length c.args.bytes.now in
     let h = header_of c.args.bytes.now in
-    let same = unless_value (first_fault (header_checks n h)) h _ c.in-ok-header.ensures in
+    let same = unless_value (first_fault (header_checks n h)) h _ c.in_ok-header.ensures in
     ap Ok same
     ∙ sym (ap (λ o. unless o h)
-    (passed (header_checks n h) (section_checks n h) h _ c.in-ok-header.ensures
-    ∙ unless_ok (first_fault (section_checks n h)) tt tt (c.in-ok-check-sections.ensures ∙ ap (λ k. unless (first_fault (section_checks n k)) tt) same)))
+    (passed (header_checks n h) (section_checks n h) h _ c.in_ok-header.ensures
+    ∙ unless_ok (first_fault (section_checks n h)) tt tt (c.in_ok-check_sections.ensures ∙ ap (λ k. unless (first_fault (section_checks n k)) tt) same)))

@@ -38,52 +38,52 @@ module _ (len : ℕ) (h : Header) (sized : Passes (size_checks len)) where
       Passes (shape_checks h) → Passes (unlisted_checks h) → Passes (reserved_checks h) → first_fault (header_checks len h) ≡ first_fault (profile_checks h)
   past_reserved a b c = past_unlisted a b ∙ passed (reserved_checks h) (profile_checks h) tt tt c
 
-pub returns-in-err-check-size : goal.returns-in-err-check-size
+pub returns-in_err-check_size : goal.returns-in_err-check_size
 unfolding checked_header
-returns-in-err-check-size c =
+returns-in_err-check_size c =
     let n = length c.args.bytes.now in
     let h = header_of c.args.bytes.now in
-    exits _ (first_fault (header_checks n h)) h c.in-err-check-size.field-0.0 c.from-residual.ensures.1
-    (failed (size_checks n) (after_size h) tt _ c.in-err-check-size.ensures)
+    exits _ (first_fault (header_checks n h)) h c.in_err-check_size.field-0.0 c.from_residual.ensures.1
+    (failed (size_checks n) (after_size h) tt _ c.in_err-check_size.ensures)
 
-pub returns-in-err-check-shape : goal.returns-in-err-check-shape
+pub returns-in_err-check_shape : goal.returns-in_err-check_shape
 unfolding checked_header
-returns-in-err-check-shape c =
+returns-in_err-check_shape c =
     let n = length c.args.bytes.now in
     let h = c.read-header.result in
-    exits _ (first_fault (header_checks n h)) h c.in-err-check-shape.field-0.0 c.from-residual-in-err-check-shape.ensures.1
-    (past_size n h c.in-ok-check-size.ensures ∙ failed (shape_checks h) (after_shape h) tt _ c.in-err-check-shape.ensures)
+    exits _ (first_fault (header_checks n h)) h c.in_err-check_shape.field-0.0 c.from_residual-in_err-check_shape.ensures.1
+    (past_size n h c.in_ok-check_size.ensures ∙ failed (shape_checks h) (after_shape h) tt _ c.in_err-check_shape.ensures)
     ∙ ap (told n) c.read-header.ensures
 
-pub returns-in-err-check-unlisted : goal.returns-in-err-check-unlisted
+pub returns-in_err-check_unlisted : goal.returns-in_err-check_unlisted
 unfolding checked_header
-returns-in-err-check-unlisted c =
+returns-in_err-check_unlisted c =
     let n = length c.args.bytes.now in
     let h = c.read-header.result in
-    exits _ (first_fault (header_checks n h)) h c.in-err-check-unlisted.field-0.0 c.from-residual-in-err-check-unlisted.ensures.1
-    (past_shape n h c.in-ok-check-size.ensures c.in-ok-check-shape.ensures
-    ∙ failed (unlisted_checks h) (after_unlisted h) tt _ c.in-err-check-unlisted.ensures)
+    exits _ (first_fault (header_checks n h)) h c.in_err-check_unlisted.field-0.0 c.from_residual-in_err-check_unlisted.ensures.1
+    (past_shape n h c.in_ok-check_size.ensures c.in_ok-check_shape.ensures
+    ∙ failed (unlisted_checks h) (after_unlisted h) tt _ c.in_err-check_unlisted.ensures)
     ∙ ap (told n) c.read-header.ensures
 
-pub returns-in-err-check-reserved : goal.returns-in-err-check-reserved
+pub returns-in_err-check_reserved : goal.returns-in_err-check_reserved
 unfolding checked_header
-returns-in-err-check-reserved c =
+returns-in_err-check_reserved c =
     let n = length c.args.bytes.now in
     let h = c.read-header.result in
-    exits _ (first_fault (header_checks n h)) h c.in-err-check-reserved.field-0.0 c.from-residual-in-err-check-reserved.ensures.1
-    (past_unlisted n h c.in-ok-check-size.ensures c.in-ok-check-shape.ensures c.in-ok-check-unlisted.ensures
-    ∙ failed (reserved_checks h) (profile_checks h) tt _ c.in-err-check-reserved.ensures)
+    exits _ (first_fault (header_checks n h)) h c.in_err-check_reserved.field-0.0 c.from_residual-in_err-check_reserved.ensures.1
+    (past_unlisted n h c.in_ok-check_size.ensures c.in_ok-check_shape.ensures c.in_ok-check_unlisted.ensures
+    ∙ failed (reserved_checks h) (profile_checks h) tt _ c.in_err-check_reserved.ensures)
     ∙ ap (told n) c.read-header.ensures
 
-pub returns-in-err-check-profile : goal.returns-in-err-check-profile
+pub returns-in_err-check_profile : goal.returns-in_err-check_profile
 unfolding checked_header
-returns-in-err-check-profile c =
+returns-in_err-check_profile c =
     let n = length c.args.bytes.now in
     let h = c.read-header.result in
-    exits _ (first_fault (header_checks n h)) h c.in-err-check-profile.field-0.0 c.from-residual-in-err-check-profile.ensures.1
-    (past_reserved n h c.in-ok-check-size.ensures c.in-ok-check-shape.ensures c.in-ok-check-unlisted.ensures
-    c.in-ok-check-reserved.ensures
-    ∙ unless_err (first_fault (profile_checks h)) tt _ c.in-err-check-profile.ensures)
+    exits _ (first_fault (header_checks n h)) h c.in_err-check_profile.field-0.0 c.from_residual-in_err-check_profile.ensures.1
+    (past_reserved n h c.in_ok-check_size.ensures c.in_ok-check_shape.ensures c.in_ok-check_unlisted.ensures
+    c.in_ok-check_reserved.ensures
+    ∙ unless_err (first_fault (profile_checks h)) tt _ c.in_err-check_profile.ensures)
     ∙ ap (told n) c.read-header.ensures
 
 pub returns : goal.returns
@@ -92,7 +92,7 @@ returns c =
     let n = length c.args.bytes.now in
     let h = c.read-header.result in
     sym (ap (λ o. unless o h)
-    (past_reserved n h c.in-ok-check-size.ensures c.in-ok-check-shape.ensures c.in-ok-check-unlisted.ensures
-    c.in-ok-check-reserved.ensures
-    ∙ unless_ok (first_fault (profile_checks h)) tt tt c.in-ok-check-profile.ensures))
+    (past_reserved n h c.in_ok-check_size.ensures c.in_ok-check_shape.ensures c.in_ok-check_unlisted.ensures
+    c.in_ok-check_reserved.ensures
+    ∙ unless_ok (first_fault (profile_checks h)) tt tt c.in_ok-check_profile.ensures))
     ∙ ap (told n) c.read-header.ensures

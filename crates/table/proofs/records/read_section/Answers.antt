@@ -11,14 +11,14 @@ pushed_on {X} new old known x y b grown pushed same at = grown ∙ ap (λ t. con
 -- a section is short, so no place in it is far into the file
 pub read-requires : goal.read-requires
 read-requires g c =
-    let few : c.loop-i.-i ≤ 65535 = omega arith in
-    let short : g.R.FileRecord.width * c.loop-i.-i ≤ 16 * 65535 = mul-le-mul g.met.R.FileRecord.small few in
+    let few : c.loop-i._i ≤ 65535 = omega arith in
+    let short : g.R.FileRecord.width * c.loop-i._i ≤ 16 * 65535 = mul-le-mul g.met.R.FileRecord.small few in
     omega (arith, c.loop-i.invariant.0)
 
-pub overflow-add-place : goal.overflow-add-place
-overflow-add-place g c =
-    let few : c.loop-i.-i ≤ 65535 = omega arith in
-    let short : g.R.FileRecord.width * c.loop-i.-i ≤ 16 * 65535 = mul-le-mul g.met.R.FileRecord.small few in
+pub overflow_add-place : goal.overflow_add-place
+overflow_add-place g c =
+    let few : c.loop-i._i ≤ 65535 = omega arith in
+    let short : g.R.FileRecord.width * c.loop-i._i ≤ 16 * 65535 = mul-le-mul g.met.R.FileRecord.small few in
     omega (arith, c.loop-i.invariant.0, g.met.R.FileRecord.small, c.width-place.ensures)
 
 pub loop-i-init : goal.loop-i-init
@@ -27,8 +27,8 @@ loop-i-init g c = (omega (arith, mul-zero g.R.FileRecord.width), c.new-section.e
 pub loop-i-preserved : goal.loop-i-preserved
 loop-i-preserved g c =
     let w = g.R.FileRecord.width in
-    let i = c.loop-i.-i in
+    let i = c.loop-i._i in
     let more = map-range_with_len_more (λ k. g.R.FileRecord.meaning c.args.bytes.now (c.args.at + w * k)) 0 i i (omega arith) in (
       omega (arith, c.loop-i.invariant.0, c.width-place.ensures, mul-add w i 1, mul-one w),
-      pushed_on _ _ _ _ _ _ c.push.ensures.items (ap is_ok c.in-ok-push.was) c.loop-i.invariant.1 (c.read.ensures ∙ ap (g.R.FileRecord.meaning c.args.bytes.now) c.loop-i.invariant.0) ∙ sym more,
+      pushed_on _ _ _ _ _ _ c.push.ensures.items (ap is_ok c.in_ok-push.was) c.loop-i.invariant.1 (c.read.ensures ∙ ap (g.R.FileRecord.meaning c.args.bytes.now) c.loop-i.invariant.0) ∙ sym more,
     )

@@ -4,5 +4,5 @@ use Rattle.table.proofs.records.read_section.Given as goal
 
 abbrev pub invariant-loop-i : goal.invariant-loop-i
 invariant-loop-i g l =
-    (l.place ≡ l.at + g.R.FileRecord.width * l.-i)
-    × (vec_items l.section ≡ records_at (g.R.FileRecord.meaning l.bytes) g.R.FileRecord.width l.at l.-i)
+    (l.place ≡ l.at + g.R.FileRecord.width * l._i)
+    × (vec_items l.section ≡ records_at (g.R.FileRecord.meaning l.bytes) g.R.FileRecord.width l.at l._i)
