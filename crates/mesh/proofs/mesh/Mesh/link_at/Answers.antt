@@ -7,8 +7,8 @@ pub returns-then-k-eq0 : goal.returns-then-k-eq0
 returns-then-k-eq0 c = first_at _ _ _ _ c.args.k (omega arith)
 
 pub returns-then-k-steps : goal.returns-then-k-steps
-returns-then-k-steps c = c.step-link.ensures ∙ step_at _ _ _ _ c.args.k (omega arith) (omega arith)
+returns-then-k-steps c = c.step_link.ensures ∙ step_at _ _ _ _ c.args.k (omega arith) (omega arith)
 
 pub returns-else-k-steps : goal.returns-else-k-steps
 returns-else-k-steps c =
-    c.in-link.ensures ∙ last_at _ _ _ _ c.args.k (omega arith) c.requires.within
+    c.in_link.ensures ∙ last_at _ _ _ _ c.args.k (omega arith) c.requires.within

@@ -5,6 +5,6 @@ use Rattle.mesh.proofs.mesh.makes.header_of.Goals as goal
 pub returns : goal.returns
 returns c =
     record {
-      checked = c.check-file.ensures;
-      fits = file_fits _ _ c.check-file.ensures;
+      checked = c.check_file.ensures;
+      fits = file_fits _ _ c.check_file.ensures;
     }
