@@ -11,7 +11,7 @@ use Rattle.analysis.specs.Standing.{Ordered, InSlot, Marks, Stands, Standing}
 use Rattle.analysis.proofs.Ways.{none_first}
 use Rattle.analysis.proofs.Delays.{delays_first, delays_pass, delays_more}
 use Rattle.analysis.proofs.bounding.demand_of.Goals as goal
-use Rattle.analysis.proofs.bounding.demand_of.Goals.{then-has+in-Some+in-ok-push, else-has}
+use Rattle.analysis.proofs.bounding.demand_of.Goals.{then-has+in-Some+in_ok-push, else-has}
 
 pub loop-k-init : goal.loop-k-init
 loop-k-init c = (
@@ -26,7 +26,7 @@ unreachable-requires c =
     let row = c.index-rows-k.result in
     let apart = c.requires.apart c.loop-k.k row c.loop-k-test.true in
     let same = ap (λ (r : Row). r.record.separation) c.index-rows-k.is in
-    omega (arith, ltb-false 0 row.record.separation (sym c.in-default.ensures.some), apart, same)
+    omega (arith, ltb-false 0 row.record.separation (sym c.in_default.ensures.some), apart, same)
 
 pub loop-k-preserved : goal.loop-k-preserved
 loop-k-preserved c =
@@ -40,19 +40,19 @@ loop-k-preserved c =
     let inside : k + 1 < n = omega (arith, c.loop-k-test.true) in
     let some : 1 ≤ k + 1 = omega arith in
     elim c.if-has.branch [
-      | then-has+in-Some+in-ok-push w ↦
-          subst P (sym w.demand_is) (
-            w.in-ok-push.ensures.ground ∙ inv.0,
+      | then-has+in-Some+in_ok-push w ↦
+          subst P (sym w.demand-is) (
+            w.in_ok-push.ensures.ground ∙ inv.0,
             λ b ordered times standing marks x.
                 let shares = sym (marks (k + 1) some inside) ∙ sym c.has.ensures ∙ w.if-has.true in
                 let row = c.index-rows-k.result in
                 let stands = subst (λ (r : Row). Stands b r (k + 1)) (sym c.index-rows-k.is) (standing k row c.loop-k-test.true) in
                 let takes = w.in-Some.ensures.takes b n ordered times inside stands marks in
-                ap (sum_by (charge x)) w.in-ok-push.ensures.terms
+                ap (sum_by (charge x)) w.in_ok-push.ensures.terms
                 ∙ delays_more b (bound_of b) n x (k + 1) w.in-Some.term (vec_items c.loop-k.demand.terms) shares takes (inv.1 b ordered times standing marks x),
           )
       | else-has w ↦
-          subst P (sym w.demand_is) (
+          subst P (sym w.demand-is) (
             inv.0,
             λ b ordered times standing marks x.
                 let free = sym (marks (k + 1) some inside) ∙ sym c.has.ensures ∙ w.if-has.false in

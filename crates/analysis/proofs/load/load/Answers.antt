@@ -19,110 +19,110 @@ use Rattle.analysis.proofs.Opening.{Opened, Sound, opened, sound, profile_is, sl
 use Rattle.analysis.proofs.Whole.{open_fault, record_fault, routes_decide, rows_of, exactly}
 use Rattle.analysis.proofs.load.load.Goals as goal
 
-pub returns-in-err-header : goal.returns-in-err-header
-returns-in-err-header g c =
+pub returns-in_err-header : goal.returns-in_err-header
+returns-in_err-header g c =
     let bs = c.args.file.now in
     let R = g.F.Fabric.route c.args.fabric.now in
-    let N = c.node-count-nodes.result in
-    let e = c.in-err-header.field-0.0 in
-    let fault = unless_err (first_fault (open_checks (length bs) c.args.limit N (header_of bs))) (header_of bs) e c.in-err-header.ensures in
-    let all = ap (λ (n : ℕ). first_fault (load_checks bs n R c.args.limit)) (sym c.node-count-nodes.ensures) ∙ open_fault bs N c.args.limit R e fault in
+    let N = c.node_count-nodes.result in
+    let e = c.in_err-header.field-0.0 in
+    let fault = unless_err (first_fault (open_checks (length bs) c.args.limit N (header_of bs))) (header_of bs) e c.in_err-header.ensures in
+    let all = ap (λ (n : ℕ). first_fault (load_checks bs n R c.args.limit)) (sym c.node_count-nodes.ensures) ∙ open_fault bs N c.args.limit R e fault in
     record {
-      answer = built_fault _ _ _ e c.from-residual.ensures.1 (λ _. all);
-      memory = λ out. absurd (open_never (length bs) c.args.limit N (header_of bs) (fault ∙ ap Some (handed_up _ e NoMemory c.from-residual.ensures.1 out)));
-      exact = IfOk-from_err _ _ c.from-residual.ensures.0;
+      answer = built_fault _ _ _ e c.from_residual.ensures.1 (λ _. all);
+      memory = λ out. absurd (open_never (length bs) c.args.limit N (header_of bs) (fault ∙ ap Some (handed_up _ e NoMemory c.from_residual.ensures.1 out)));
+      exact = IfOk-from_err _ _ c.from_residual.ensures.0;
     }
 
 pub unreachable-requires : goal.unreachable-requires
 unreachable-requires g c =
     let bs = c.args.file.now in
     let H = header_of bs in
-    let N = c.node-count-nodes.result in
-    let fine = unless_ok (first_fault (open_checks (length bs) c.args.limit N H)) H _ c.in-ok-header.ensures in
-    let same = unless_value (first_fault (open_checks (length bs) c.args.limit N H)) H _ c.in-ok-header.ensures in
+    let N = c.node_count-nodes.result in
+    let fine = unless_ok (first_fault (open_checks (length bs) c.args.limit N H)) H _ c.in_ok-header.ensures in
+    let same = unless_value (first_fault (open_checks (length bs) c.args.limit N H)) H _ c.in_ok-header.ensures in
     let known = (opened (length bs) c.args.limit N H fine).known in
-    let none = c.in-default.ensures ∙ ap (λ (h : Header). profile_at h.profile) same in
+    let none = c.in_default.ensures ∙ ap (λ (h : Header). profile_at h.profile) same in
     both_ways (is_some (profile_at H.profile)) (sym (ap (λ (o : Option Profile). is_some o) none)) known
 
-pub unreachable-requires-in-default-new : goal.unreachable-requires-in-default-new
-unreachable-requires-in-default-new g c =
+pub unreachable-requires-in_default-new : goal.unreachable-requires-in_default-new
+unreachable-requires-in_default-new g c =
     let bs = c.args.file.now in
     let H = header_of bs in
-    let N = c.node-count-nodes.result in
-    let fine = unless_ok (first_fault (open_checks (length bs) c.args.limit N H)) H _ c.in-ok-header.ensures in
-    let same = unless_value (first_fault (open_checks (length bs) c.args.limit N H)) H _ c.in-ok-header.ensures in
-    slot_there c.in-ok-header.header c.in-Some.profile (subst Opened (sym same) (opened (length bs) c.args.limit N H fine)) c.in-default-new.ensures
+    let N = c.node_count-nodes.result in
+    let fine = unless_ok (first_fault (open_checks (length bs) c.args.limit N H)) H _ c.in_ok-header.ensures in
+    let same = unless_value (first_fault (open_checks (length bs) c.args.limit N H)) H _ c.in_ok-header.ensures in
+    slot_there c.in_ok-header.header c.in-Some.profile (subst Opened (sym same) (opened (length bs) c.args.limit N H fine)) c.in_default-new.ensures
 
-pub check-records-requires : goal.check-records-requires
-check-records-requires g c =
+pub check_records-requires : goal.check_records-requires
+check_records-requires g c =
     let bs = c.args.file.now in
     let H = header_of bs in
-    let N = c.node-count-nodes.result in
-    let h = c.in-ok-header.header in
-    let fine = unless_ok (first_fault (open_checks (length bs) c.args.limit N H)) H _ c.in-ok-header.ensures in
-    let same = unless_value (first_fault (open_checks (length bs) c.args.limit N H)) H _ c.in-ok-header.ensures in
+    let N = c.node_count-nodes.result in
+    let h = c.in_ok-header.header in
+    let fine = unless_ok (first_fault (open_checks (length bs) c.args.limit N H)) H _ c.in_ok-header.ensures in
+    let same = unless_value (first_fault (open_checks (length bs) c.args.limit N H)) H _ c.in_ok-header.ensures in
     let ok = subst Opened (sym same) (opened (length bs) c.args.limit N H fine) in
-    let lent = c.as-slice-flows.ensures.value ∙ c.in-ok-records.ensures in
+    let lent = c.as_slice-flows.ensures.value ∙ c.in_ok-records.ensures in
     omega (arith, ap length lent, flow_count bs h, ok.few)
 
-pub returns-in-err-check-records : goal.returns-in-err-check-records
-returns-in-err-check-records g c =
+pub returns-in_err-check_records : goal.returns-in_err-check_records
+returns-in_err-check_records g c =
     let bs = c.args.file.now in
     let R = g.F.Fabric.route c.args.fabric.now in
     let H = header_of bs in
-    let N = c.node-count-nodes.result in
+    let N = c.node_count-nodes.result in
     let L = c.args.limit in
-    let h = c.in-ok-header.header in
+    let h = c.in_ok-header.header in
     let p = c.in-Some.profile in
     let slot = c.in-Some-new.slot in
-    let xs = c.as-slice-flows.result.now in
-    let fine = unless_ok (first_fault (open_checks (length bs) L N H)) H h c.in-ok-header.ensures in
-    let eh = unless_value (first_fault (open_checks (length bs) L N H)) H h c.in-ok-header.ensures in
+    let xs = c.as_slice-flows.result.now in
+    let fine = unless_ok (first_fault (open_checks (length bs) L N H)) H h c.in_ok-header.ensures in
+    let eh = unless_value (first_fault (open_checks (length bs) L N H)) H h c.in_ok-header.ensures in
     let ep = profile_is h p c.in-Some.ensures ∙ ap profile_of eh in
     let es = slot_is h p slot c.in-Some-new.ensures ∙ ap₂ slot_for eh ep in
-    let er = c.as-slice-flows.ensures.value ∙ c.in-ok-records.ensures ∙ ap (flows_of bs) eh in
-    let e = c.in-err-check-records.field-0.0 in
-    let fault = record_fault bs N L R fine h p slot xs eh ep es er e (unless_err _ tt e c.in-err-check-records.ensures) in
-    let all = ap (λ (n : ℕ). first_fault (load_checks bs n R L)) (sym c.node-count-nodes.ensures) ∙ fault in
+    let er = c.as_slice-flows.ensures.value ∙ c.in_ok-records.ensures ∙ ap (flows_of bs) eh in
+    let e = c.in_err-check_records.field-0.0 in
+    let fault = record_fault bs N L R fine h p slot xs eh ep es er e (unless_err _ tt e c.in_err-check_records.ensures) in
+    let all = ap (λ (n : ℕ). first_fault (load_checks bs n R L)) (sym c.node_count-nodes.ensures) ∙ fault in
     record {
-      answer = built_fault _ _ _ e c.from-residual-in-err-check-records.ensures.1 (λ _. all);
-      memory = λ _. ap (λ (n : ℕ). first_fault (open_checks (length bs) L n H)) (sym c.node-count-nodes.ensures) ∙ fine;
-      exact = IfOk-from_err _ _ c.from-residual-in-err-check-records.ensures.0;
+      answer = built_fault _ _ _ e c.from_residual-in_err-check_records.ensures.1 (λ _. all);
+      memory = λ _. ap (λ (n : ℕ). first_fault (open_checks (length bs) L n H)) (sym c.node_count-nodes.ensures) ∙ fine;
+      exact = IfOk-from_err _ _ c.from_residual-in_err-check_records.ensures.0;
     }
 
-pub returns-in-err-records : goal.returns-in-err-records
-returns-in-err-records g c =
+pub returns-in_err-records : goal.returns-in_err-records
+returns-in_err-records g c =
     let bs = c.args.file.now in
     let H = header_of bs in
-    let N = c.node-count-nodes.result in
+    let N = c.node_count-nodes.result in
     let L = c.args.limit in
-    let fine = unless_ok (first_fault (open_checks (length bs) L N H)) H c.in-ok-header.header c.in-ok-header.ensures in
+    let fine = unless_ok (first_fault (open_checks (length bs) L N H)) H c.in_ok-header.header c.in_ok-header.ensures in
     record {
-      answer = built_nothing _ _ _ c.from-residual-in-err-records.ensures.1;
-      memory = λ _. ap (λ (n : ℕ). first_fault (open_checks (length bs) L n H)) (sym c.node-count-nodes.ensures) ∙ fine;
-      exact = IfOk-from_err _ _ c.from-residual-in-err-records.ensures.0;
+      answer = built_nothing _ _ _ c.from_residual-in_err-records.ensures.1;
+      memory = λ _. ap (λ (n : ℕ). first_fault (open_checks (length bs) L n H)) (sym c.node_count-nodes.ensures) ∙ fine;
+      exact = IfOk-from_err _ _ c.from_residual-in_err-records.ensures.0;
     }
 
-pub load-rows-requires : goal.load-rows-requires
-load-rows-requires g c =
+pub load_rows-requires : goal.load_rows-requires
+load_rows-requires g c =
     let bs = c.args.file.now in
     let R = g.F.Fabric.route c.args.fabric.now in
     let H = header_of bs in
-    let N = c.node-count-nodes.result in
+    let N = c.node_count-nodes.result in
     let L = c.args.limit in
-    let h = c.in-ok-header.header in
+    let h = c.in_ok-header.header in
     let p = c.in-Some.profile in
     let slot = c.in-Some-new.slot in
-    let xs = c.as-slice-flows.result.now in
-    let fine = unless_ok (first_fault (open_checks (length bs) L N H)) H h c.in-ok-header.ensures in
-    let eh = unless_value (first_fault (open_checks (length bs) L N H)) H h c.in-ok-header.ensures in
+    let xs = c.as_slice-flows.result.now in
+    let fine = unless_ok (first_fault (open_checks (length bs) L N H)) H h c.in_ok-header.ensures in
+    let eh = unless_value (first_fault (open_checks (length bs) L N H)) H h c.in_ok-header.ensures in
     let ep = profile_is h p c.in-Some.ensures ∙ ap profile_of eh in
     let es = slot_is h p slot c.in-Some-new.ensures ∙ ap₂ slot_for eh ep in
-    let er = c.as-slice-flows.ensures.value ∙ c.in-ok-records.ensures ∙ ap (flows_of bs) eh in
+    let er = c.as_slice-flows.ensures.value ∙ c.in_ok-records.ensures ∙ ap (flows_of bs) eh in
     let ok = opened (length bs) L N H fine in
     let small = sound h.profile p c.in-Some.ensures in
     let short = subst (λ (s : Slot). (s.length < 2 ^ 30) × (0 < s.length)) (sym es) (slot_short H (profile_of H) ok (subst Sound ep small)) in
-    let right-all = unless_ok _ tt tt c.in-ok-check-records.ensures in
+    let right-all = unless_ok _ tt tt c.in_ok-check_records.ensures in
     record {
       pause = subst (λ (s : Slot). s.pause ≤ s.length) (sym es) (omega arith);
       short = short.0;
@@ -135,30 +135,30 @@ load-rows-requires g c =
       few = omega (arith, ap length er, flow_count bs H, ok.few);
     }
 
-pub returns-in-err-rows : goal.returns-in-err-rows
-returns-in-err-rows g c =
+pub returns-in_err-rows : goal.returns-in_err-rows
+returns-in_err-rows g c =
     let bs = c.args.file.now in
     let R = g.F.Fabric.route c.args.fabric.now in
     let H = header_of bs in
-    let N = c.node-count-nodes.result in
+    let N = c.node_count-nodes.result in
     let L = c.args.limit in
-    let h = c.in-ok-header.header in
+    let h = c.in_ok-header.header in
     let p = c.in-Some.profile in
     let slot = c.in-Some-new.slot in
-    let xs = c.as-slice-flows.result.now in
-    let fine = unless_ok (first_fault (open_checks (length bs) L N H)) H h c.in-ok-header.ensures in
-    let eh = unless_value (first_fault (open_checks (length bs) L N H)) H h c.in-ok-header.ensures in
+    let xs = c.as_slice-flows.result.now in
+    let fine = unless_ok (first_fault (open_checks (length bs) L N H)) H h c.in_ok-header.ensures in
+    let eh = unless_value (first_fault (open_checks (length bs) L N H)) H h c.in_ok-header.ensures in
     let ep = profile_is h p c.in-Some.ensures ∙ ap profile_of eh in
     let es = slot_is h p slot c.in-Some-new.ensures ∙ ap₂ slot_for eh ep in
-    let er = c.as-slice-flows.ensures.value ∙ c.in-ok-records.ensures ∙ ap (flows_of bs) eh in
-    let e = c.in-err-rows.field-0.0 in
-    let right-all = unless_ok _ tt tt c.in-ok-check-records.ensures in
+    let er = c.as_slice-flows.ensures.value ∙ c.in_ok-records.ensures ∙ ap (flows_of bs) eh in
+    let e = c.in_err-rows.field-0.0 in
+    let right-all = unless_ok _ tt tt c.in_ok-check_records.ensures in
     record {
-      answer = built_fault _ _ _ e c.from-residual-in-err-rows.ensures.1 (λ other.
-          ap (λ (n : ℕ). first_fault (load_checks bs n R L)) (sym c.node-count-nodes.ensures)
-          ∙ routes_decide bs N L R fine h p slot xs eh ep es er right-all (Some e) (c.in-err-rows.ensures other));
-      memory = λ _. ap (λ (n : ℕ). first_fault (open_checks (length bs) L n H)) (sym c.node-count-nodes.ensures) ∙ fine;
-      exact = IfOk-from_err _ _ c.from-residual-in-err-rows.ensures.0;
+      answer = built_fault _ _ _ e c.from_residual-in_err-rows.ensures.1 (λ other.
+          ap (λ (n : ℕ). first_fault (load_checks bs n R L)) (sym c.node_count-nodes.ensures)
+          ∙ routes_decide bs N L R fine h p slot xs eh ep es er right-all (Some e) (c.in_err-rows.ensures other));
+      memory = λ _. ap (λ (n : ℕ). first_fault (open_checks (length bs) L n H)) (sym c.node_count-nodes.ensures) ∙ fine;
+      exact = IfOk-from_err _ _ c.from_residual-in_err-rows.ensures.0;
     }
 
 pub returns : goal.returns
@@ -166,25 +166,25 @@ returns g c =
     let bs = c.args.file.now in
     let R = g.F.Fabric.route c.args.fabric.now in
     let H = header_of bs in
-    let N = c.node-count-nodes.result in
+    let N = c.node_count-nodes.result in
     let L = c.args.limit in
-    let h = c.in-ok-header.header in
+    let h = c.in_ok-header.header in
     let p = c.in-Some.profile in
     let slot = c.in-Some-new.slot in
-    let xs = c.as-slice-flows.result.now in
-    let fine = unless_ok (first_fault (open_checks (length bs) L N H)) H h c.in-ok-header.ensures in
-    let eh = unless_value (first_fault (open_checks (length bs) L N H)) H h c.in-ok-header.ensures in
+    let xs = c.as_slice-flows.result.now in
+    let fine = unless_ok (first_fault (open_checks (length bs) L N H)) H h c.in_ok-header.ensures in
+    let eh = unless_value (first_fault (open_checks (length bs) L N H)) H h c.in_ok-header.ensures in
     let ep = profile_is h p c.in-Some.ensures ∙ ap profile_of eh in
     let es = slot_is h p slot c.in-Some-new.ensures ∙ ap₂ slot_for eh ep in
-    let er = c.as-slice-flows.ensures.value ∙ c.in-ok-records.ensures ∙ ap (flows_of bs) eh in
-    let right-all = unless_ok _ tt tt c.in-ok-check-records.ensures in
-    let built = c.in-ok-rows.ensures in
+    let er = c.as_slice-flows.ensures.value ∙ c.in_ok-records.ensures ∙ ap (flows_of bs) eh in
+    let right-all = unless_ok _ tt tt c.in_ok-check_records.ensures in
+    let built = c.in_ok-rows.ensures in
     let small = subst Sound ep (sound h.profile p c.in-Some.ensures) in
     record {
       answer = (
-        ap (λ (n : ℕ). first_fault (load_checks bs n R L)) (sym c.node-count-nodes.ensures) ∙ routes_decide bs N L R fine h p slot xs eh ep es er right-all None built.0,
+        ap (λ (n : ℕ). first_fault (load_checks bs n R L)) (sym c.node_count-nodes.ensures) ∙ routes_decide bs N L R fine h p slot xs eh ep es er right-all None built.0,
         record { slot_is = es; rows_fit = rows_of bs N L R fine h p slot xs eh ep es er right-all _ built.1 },
       );
-      memory = λ _. ap (λ (n : ℕ). first_fault (open_checks (length bs) L n H)) (sym c.node-count-nodes.ensures) ∙ fine;
+      memory = λ _. ap (λ (n : ℕ). first_fault (open_checks (length bs) L n H)) (sym c.node_count-nodes.ensures) ∙ fine;
       exact = exactly bs N L R fine h p slot xs eh ep es er right-all small built.0;
     }

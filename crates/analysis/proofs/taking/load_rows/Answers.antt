@@ -17,38 +17,38 @@ loop-flow-init g c =
       subst (RowsFit c.args.slot.now c.args.profile.now rs R 0) (sym c.new-rows.ensures.items) (no_rows c.args.slot.now c.args.profile.now rs R),
     )
 
-pub load-row-requires : goal.load-row-requires
-load-row-requires g c =
+pub load_row-requires : goal.load_row-requires
+load_row-requires g c =
     let rows = vec_items c.loop-flow.rows in
     let fit = c.loop-flow.invariant.1 in
-    let lent = c.as-slice.ensures.value in
+    let lent = c.as_slice.ensures.value in
     record {
       pause = c.requires.pause;
       short = c.requires.short;
       transfer = c.requires.transfer;
       flit = c.requires.flit;
       apart =
-          apart_from c.args.slot.now c.args.profile.now c.args.records.now (g.F.Fabric.route c.args.fabric.now) c.loop-flow.flow-index rows c.as-slice.result.now
+          apart_from c.args.slot.now c.args.profile.now c.args.records.now (g.F.Fabric.route c.args.fabric.now) c.loop-flow.flow-index rows c.as_slice.result.now
           lent fit (omega (arith, c.loop-flow-test.true)) c.requires.apart;
       few = omega (arith, ap length lent, fit.count, c.loop-flow-test.true, c.requires.few);
     }
 
-pub returns-in-err-row : goal.returns-in-err-row
-returns-in-err-row g c =
+pub returns-in_err-row : goal.returns-in_err-row
+returns-in_err-row g c =
     let rs = c.args.records.now in
     let R = g.F.Fabric.route c.args.fabric.now in
     let checks = route_checks_of c.args.header.now c.args.slot.now c.args.profile.now rs R in
     let k = c.loop-flow.flow-index in
-    let e = c.in-err-row.field-0.0 in
+    let e = c.in_err-row.field-0.0 in
     let inv = c.loop-flow.invariant in
     let built =
-    turn_built c.args.slot.now c.args.profile.now rs R c.args.header.now k (vec_items c.loop-flow.rows) c.as-slice.result.now _ (Err e)
-    c.as-slice.ensures.value inv.1 c.loop-flow-test.true refl c.in-err-row.ensures in
-    built_fault _ _ _ e c.from-residual.ensures.1
+    turn_built c.args.slot.now c.args.profile.now rs R c.args.header.now k (vec_items c.loop-flow.rows) c.as_slice.result.now _ (Err e)
+    c.as_slice.ensures.value inv.1 c.loop-flow-test.true refl c.in_err-row.ensures in
+    built_fault _ _ _ e c.from_residual.ensures.1
     (λ other. stays checks (k + 1) (length rs) e (omega (arith, c.loop-flow-test.true)) (turn_is checks k (Some e) inv.0 (built other)))
 
-pub returns-in-err-push : goal.returns-in-err-push
-returns-in-err-push g c = built_nothing _ _ _ c.from-residual-in-err-push.ensures.1
+pub returns-in_err-push : goal.returns-in_err-push
+returns-in_err-push g c = built_nothing _ _ _ c.from_residual-in_err-push.ensures.1
 
 pub loop-flow-preserved : goal.loop-flow-preserved
 loop-flow-preserved g c =
@@ -57,13 +57,13 @@ loop-flow-preserved g c =
     let checks = route_checks_of c.args.header.now c.args.slot.now c.args.profile.now rs R in
     let k = c.loop-flow.flow-index in
     let rows = vec_items c.loop-flow.rows in
-    let row = c.in-ok-row.row in
+    let row = c.in_ok-row.row in
     let inv = c.loop-flow.invariant in
     let built =
-    turn_built c.args.slot.now c.args.profile.now rs R c.args.header.now k rows c.as-slice.result.now _ (Ok row)
-    c.as-slice.ensures.value inv.1 c.loop-flow-test.true refl c.in-ok-row.ensures in (
+    turn_built c.args.slot.now c.args.profile.now rs R c.args.header.now k rows c.as_slice.result.now _ (Ok row)
+    c.as_slice.ensures.value inv.1 c.loop-flow-test.true refl c.in_ok-row.ensures in (
       turn_is checks k None inv.0 built.0,
-      subst (RowsFit c.args.slot.now c.args.profile.now rs R (k + 1)) (sym c.in-ok-push.ensures.items)
+      subst (RowsFit c.args.slot.now c.args.profile.now rs R (k + 1)) (sym c.in_ok-push.ensures.items)
           (row_more c.args.slot.now c.args.profile.now rs R k rows row inv.1 built.1),
     )
 

@@ -4,15 +4,15 @@ use Rattle.analysis.specs.declared.row.Row.{Row}
 use Rattle.analysis.proofs.Marking.{marks_from}
 use Rattle.analysis.proofs.taking.row_of.Goals as goal
 
-pub overflow-add-alone : goal.overflow-add-alone
-overflow-add-alone c =
-    let few : c.saturating-sub.result ≤ 4294967296 = omega arith in
+pub overflow_add-alone : goal.overflow_add-alone
+overflow_add-alone c =
+    let few : c.saturating_sub.result ≤ 4294967296 = omega arith in
     let short : c.from.result ≤ 1073741824 = omega (arith, c.from.ensures, c.requires.short) in
     omega (arith, mul-le-mul few short, c.requires.near)
 
-pub bound-of-requires : goal.bound-of-requires
-bound-of-requires c =
-    let few : c.saturating-sub.result ≤ 4294967296 = omega arith in
+pub bound_of-requires : goal.bound_of-requires
+bound_of-requires c =
+    let few : c.saturating_sub.result ≤ 4294967296 = omega arith in
     let short : c.from.result ≤ 1073741824 = omega (arith, c.from.ensures, c.requires.short) in
     record { pause = c.requires.pause; apart = c.requires.apart; few = c.requires.few; short = omega (arith, mul-le-mul few short, c.requires.near) }
 
@@ -32,23 +32,23 @@ returns c =
           let rows = c.args.rows.now in
           let i = length rows + 1 in
           let above = c.sharing-above.result in
-          let climb = c.in-ok-climb.climb in
+          let climb = c.in_ok-climb.climb in
           let row : Row =
           record {
             «record» = c.args.flow;
             path = c.args.path;
             parts = c.args.split.parts;
             tail = c.args.split.tail;
-            alone = c.saturating-sub.result * c.from.result + c.args.split.tail;
+            alone = c.saturating_sub.result * c.from.result + c.args.split.tail;
             above = above;
             bound = climb.least;
             rounds = climb.rounds;
           } in
           let marks = marks_from b rows c.args.path above row c.requires.few c.sharing-above.ensures meets in
           let own =
-          alone_from b i c.from-parts.result c.saturating-sub.result c.from.result c.args.split.tail c.saturating-sub.ensures (c.from-parts.ensures ∙ parts)
+          alone_from b i c.from-parts.result c.saturating_sub.result c.from.result c.args.split.tail c.saturating_sub.ensures (c.from-parts.ensures ∙ parts)
           (c.from.ensures ∙ times.length_is) tail in
-          let figures = c.in-ok-climb.ensures b ordered times standing marks inside own deadline in
+          let figures = c.in_ok-climb.ensures b ordered times standing marks inside own deadline in
           record {
             parts = parts;
             tail = tail;
