@@ -16,9 +16,9 @@ returns-in-Some c =
 pub returns-in-None : goal.returns-in-None
 returns-in-None c =
     let l = c.args.self.now in
-    route_is l c.args.flow c.args.source c.args.destination _ _ _ _ c.in-default.ensures c.deref.ensures.value c.listed-numbers-numbers.ensures c.in-None.ensures
+    route_is l c.args.flow c.args.source c.args.destination _ _ _ _ c.in_default.ensures c.deref.ensures.value c.listed_numbers-numbers.ensures c.in-None.ensures
 
-pub returns-in-Some-walk-fault : goal.returns-in-Some-walk-fault
-returns-in-Some-walk-fault c =
+pub returns-in-Some-walk_fault : goal.returns-in-Some-walk_fault
+returns-in-Some-walk_fault c =
     let l = c.args.self.now in
-    route_is l c.args.flow c.args.source c.args.destination _ _ _ _ c.in-default.ensures c.deref.ensures.value c.listed-numbers-numbers.ensures c.in-Some-walk-fault.ensures
+    route_is l c.args.flow c.args.source c.args.destination _ _ _ _ c.in_default.ensures c.deref.ensures.value c.listed_numbers-numbers.ensures c.in-Some-walk_fault.ensures

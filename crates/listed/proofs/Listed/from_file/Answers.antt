@@ -2,9 +2,9 @@
 use Rattle.listed.proofs.Headers.{sized, few_links}
 use Rattle.listed.proofs.Listed.from_file.Goals as goal
 
-pub invariant-of-result : goal.invariant-of-result
-invariant-of-result c =
+pub invariant_of-result : goal.invariant_of-result
+invariant_of-result c =
     let bs = c.args.bytes.now in
-    let h = c.in-ok-header.header in
-    let size = sized bs h c.in-ok-header.ensures in
-    (size.some, (size.few, (few_links bs h _ size c.in-ok-links.ensures, tt)))
+    let h = c.in_ok-header.header in
+    let size = sized bs h c.in_ok-header.ensures in
+    record { some = size.some; few = size.few; limit = few_links bs h _ size c.in_ok-links.ensures }

@@ -10,7 +10,7 @@ returns-in-Some c =
 pub loop-k-preserved : goal.loop-k-preserved
 loop-k-preserved c =
     let l = c.loop-k in
-    sym (walk_on c.args.links.now c.args.goal c.args.numbers.now l.here l.k c.loop-k-test.true c.in-default.ensures) ∙ l.invariant
+    sym (walk_on c.args.links.now c.args.goal c.args.numbers.now l.here l.k c.loop-k-test.true c.in_default.ensures) ∙ l.invariant
 
 pub returns-then-here-goal : goal.returns-then-here-goal
 returns-then-here-goal c =
