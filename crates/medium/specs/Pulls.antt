@@ -6,7 +6,7 @@
 --   pulled_under ws k n   one of the first n nodes pulled interval k
 --   pulled_at ws k        some node pulled interval k
 --   bank_levels ws n      the levels of the first n intervals
-use Rattle.std.specs.Prelude.{ℕ, zero, suc, ◌+◌, ◌*◌, ◌/◌, ◌%◌, ◌^◌, Bool, false, ◌||◌, List, set, ◌==◌, bit_or, slice_index, slice_set}
+use Rattle.std.specs.Prelude.{ℕ, zero, suc, ◌+◌, ◌*◌, ◌/◌, ◌%◌, ◌^◌, Bool, false, ◌||◌, List, ◌==◌, bit_or, slice_index, slice_set}
 use Rattle.medium.specs.declared.level.Level.{Level}
 use Rattle.medium.specs.Levels.{levels_of}
 

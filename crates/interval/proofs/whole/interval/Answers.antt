@@ -10,7 +10,7 @@ returns g c =
     let ls = g.M.Medium.levels c.args.medium.now in
     let ps = c.args.pullers.now in
     let level = level_of (some_pull ps) in
-    let told = whole _ ls _ _ ps _ _ c.in-ok-open.ensures.answer c.open.ensures.after c.pull-all.ensures c.count-place.ensures c.level-at.ensures in
+    let told = whole _ ls _ _ ps _ _ c.in_ok-open.ensures.answer c.open.ensures.after c.pull_all.ensures c.count-place.ensures c.level_at.ensures in
     record {
       answer = ap Ok told.2 ∙ ap (λ t. cond t (Ok level) (Err Full)) (sym told.0);
       after = told.1 ∙ ap (λ t. cond t (ls ++ (level ∷ [])) ls) (sym told.0);

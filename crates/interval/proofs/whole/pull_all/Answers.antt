@@ -6,7 +6,7 @@ use Rattle.interval.proofs.whole.pull_all.Goals as goal
 
 pub loop-puller-preserved : goal.loop-puller-preserved
 loop-puller-preserved g c =
-    pull_next (g.M.Medium.levels c.loop-puller.medium) _ c.args.pullers.now c.loop-puller.puller-index _ (omega arith) c.pull-if.ensures.after ∙ c.loop-puller.invariant
+    pull_next (g.M.Medium.levels c.loop-puller.medium) _ c.args.pullers.now c.loop-puller.puller-index _ (omega arith) c.pull_if.ensures.after ∙ c.loop-puller.invariant
 
 pub returns : goal.returns
 returns g c =

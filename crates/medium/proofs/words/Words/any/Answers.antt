@@ -1,5 +1,5 @@
 use Rattle.std.proofs.Common.{◌||◌, sym, ap, ◌∙◌, arith}
-use Rattle.medium.specs.Pulls.{pulled_by, pulled_under}
+use Rattle.medium.specs.Pulls.{pulled_by}
 use Rattle.medium.proofs.NodePulls.{under_none, under_more, under_from}
 use Rattle.medium.proofs.words.Words.any.Goals as goal
 
