@@ -17,8 +17,8 @@ returns-then-read-eq0 c =
     let none : (header_of bs).links ≡ 0 = ap (λ (h : Header). h.links) (sym c.read.ensures) ∙ c.if-read-eq0.true in
     let same = sym (cond-true (eqb (header_of bs).links 0) (mesh_routes bs) (listed_routes bs) (eq-eqb _ 0 none)) in
     record {
-      answer = subst (λ (R : ℕ → ℕ → ℕ → Route). Builds (first_fault (load_checks bs (nodes_of (header_of bs)) R 128)) (Loads bs R) c.load-mesh.result) same c.load-mesh.ensures.answer;
-      exact = subst (λ (R : ℕ → ℕ → ℕ → Route). IfOk c.load-mesh.result (λ _. Exactly (timing_of bs R))) same c.load-mesh.ensures.exact;
+      answer = subst (λ (R : ℕ → ℕ → ℕ → Route). Builds (first_fault (load_checks bs (nodes_of (header_of bs)) R 128)) (Loads bs R) c.load_mesh.result) same c.load_mesh.ensures.answer;
+      exact = subst (λ (R : ℕ → ℕ → ℕ → Route). IfOk c.load_mesh.result (λ _. Exactly (timing_of bs R))) same c.load_mesh.ensures.exact;
     }
 
 pub returns-else-read-eq0 : goal.returns-else-read-eq0
@@ -28,6 +28,6 @@ returns-else-read-eq0 c =
     let some : (header_of bs).links ≡ 0 → ⊥ = λ e. c.if-read-eq0.false (ap (λ (h : Header). h.links) c.read.ensures ∙ e) in
     let same = sym (cond-false (eqb (header_of bs).links 0) (mesh_routes bs) (listed_routes bs) (ne_eqb _ 0 some)) in
     record {
-      answer = subst (λ (R : ℕ → ℕ → ℕ → Route). Builds (first_fault (load_checks bs (nodes_of (header_of bs)) R 128)) (Loads bs R) c.load-listed.result) same c.load-listed.ensures.answer;
-      exact = subst (λ (R : ℕ → ℕ → ℕ → Route). IfOk c.load-listed.result (λ _. Exactly (timing_of bs R))) same c.load-listed.ensures.exact;
+      answer = subst (λ (R : ℕ → ℕ → ℕ → Route). Builds (first_fault (load_checks bs (nodes_of (header_of bs)) R 128)) (Loads bs R) c.load_listed.result) same c.load_listed.ensures.answer;
+      exact = subst (λ (R : ℕ → ℕ → ℕ → Route). IfOk c.load_listed.result (λ _. Exactly (timing_of bs R))) same c.load_listed.ensures.exact;
     }
