@@ -1,13 +1,12 @@
 -- The bound of a flow, from a search or from none. Assumes nothing.
-use Rattle.std.proofs.Common.{◌≡◌, ℕ, suc, ◌+◌, ◌-◌, ◌*◌, ◌<◌, ◌≤◌, Bool, true, false, cond, not, ◌&&◌, ◌||◌, ltb, leb, ◌⊎◌, List, Some, None, sum_by, Option, sym, refl, ap, ◌∙◌, subst, inl, inr, arith}
+use Rattle.std.proofs.Common.{◌≡◌, ℕ, suc, ◌+◌, ◌-◌, ◌*◌, ◌≤◌, Bool, true, false, not, ◌&&◌, ◌||◌, ltb, leb, List, None, Option, sym, refl, ap, ◌∙◌, inl, inr, arith}
 use mathlib.Core.Path.{fun_ext}
 use Rattle.std.proofs.lemmas.Bool.{cond-true, cond-false, and_from, or_cases, not-true, le-leb, lt-leb, ltb-true}
 use Rattle.staircase.specs.declared.search.Climb.{Climb}
 use Rattle.staircase.specs.declared.term.Term.{Term}
 use Rattle.staircase.specs.Climbs.{climbed}
-use Rattle.staircase.specs.Terms.{charge, demanded}
-use Rattle.timing.specs.Counts.{sum_to}
-use Rattle.timing.specs.Model.{Table, delay, demand, alone}
+use Rattle.staircase.specs.Terms.{demanded}
+use Rattle.timing.specs.Model.{Table, demand, alone}
 use Rattle.timing.specs.Staircase.{climb, rounds}
 use Rattle.timing.specs.Figures.{base, settled, searched, figure_of, bound_of, rounds_of}
 use Rattle.timing.proofs.Figures.{bound_is}

@@ -1,5 +1,5 @@
 -- A table that passed all checks is lawful. Assumes nothing.
-use Rattle.std.proofs.Common.{◌≡◌, ℕ, zero, suc, ◌+◌, ◌-◌, ◌*◌, ◌<◌, ◌≤◌, Bool, true, false, cond, ◌||◌, eqb, ltb, leb, ◌⊎◌, List, [], ◌∷◌, ◌++◌, length, get_or, is_err, Some, None, sym, refl, ap, ◌∙◌, inl, inr, mul-le-mul_right, mul-pos, zero-mul, arith}
+use Rattle.std.proofs.Common.{◌≡◌, ℕ, zero, suc, ◌+◌, ◌*◌, ◌<◌, ◌≤◌, Bool, true, false, ◌||◌, eqb, ltb, leb, List, [], ◌∷◌, length, is_err, None, refl, ap, ◌∙◌, inl, inr, mul-le-mul_right, mul-pos, zero-mul, arith}
 use Rattle.std.proofs.lemmas.Bool.{cases_lt, or_parts, ltb-false, eqb-false}
 use Rattle.fabric.specs.Routes.{Route}
 use Rattle.table.specs.declared.fault.LoadFault.{LoadFault}
@@ -12,8 +12,7 @@ use Rattle.table.proofs.Firsts.{both_passed}
 use Rattle.parts.specs.declared.slot.Slot.{Slot}
 use Rattle.parts.specs.Slots.{slot_for}
 use Rattle.parts.specs.Split.{parts_of}
-use Rattle.timing.specs.Counts.{ceil_div}
-use Rattle.timing.specs.Model.{Table, Flow, Lawful}
+use Rattle.timing.specs.Model.{Flow, Lawful}
 use Rattle.timing.proofs.Ceil.{ceil_above}
 use Rattle.analysis.specs.Loading.{each_flow, wrong, fault_in, record_byte, record_checks, route_checks, route_checks_of}
 use Rattle.analysis.specs.Tables.{record_of, route_of, flits_of, table_of}

@@ -1,6 +1,5 @@
 -- The figures of a flow stand in its row. Assumes nothing.
-use Rattle.std.proofs.Common.{◌≡◌, ℕ, zero, suc, ◌+◌, ◌-◌, ◌<◌, ◌≤◌, List, [], ◌∷◌, length, get_or, Some, None, Option, sym, refl, ap, ◌∙◌, arith}
-use Rattle.analysis.specs.declared.figures.Figures.{Figures}
+use Rattle.std.proofs.Common.{◌≡◌, ℕ, zero, suc, ◌-◌, ◌<◌, ◌≤◌, List, [], ◌∷◌, length, get_or, Some, None, sym, refl, ap, ◌∙◌, arith}
 use Rattle.analysis.specs.declared.row.Row.{Row}
 use Rattle.analysis.specs.Answers.{figures_of, figures_at}
 

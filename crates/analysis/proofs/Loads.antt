@@ -1,5 +1,5 @@
 -- One flow more of a load. Assumes nothing.
-use Rattle.std.proofs.Common.{◌≡◌, ℕ, ◌+◌, ◌-◌, ◌*◌, ◌<◌, ◌≤◌, Bool, true, false, cond, ◌&&◌, ltb, leb, List, [], ◌∷◌, ◌++◌, length, get_or, Some, None, Ok, Err, Option, Result, sym, refl, ap, ◌∙◌, subst, ap₂, inl, inr, arith}
+use Rattle.std.proofs.Common.{◌≡◌, ℕ, ◌+◌, ◌-◌, ◌<◌, ◌≤◌, Bool, true, false, cond, ◌&&◌, ltb, leb, List, [], ◌∷◌, ◌++◌, length, get_or, Some, None, Ok, Err, Result, sym, refl, ap, ◌∙◌, subst, ap₂, inl, inr, arith}
 use Rattle.std.proofs.lemmas.List.{length_push, get_or_push, get_or_append_left}
 use Rattle.std.proofs.lemmas.Bool.{cases_lt, and_parts, leb-true, ltb-true, le-leb, lt-ltb}
 use Rattle.fabric.specs.declared.path.Path.{Path}
@@ -16,7 +16,6 @@ use Rattle.parts.specs.Split.{capacity, split_for}
 use Rattle.timing.specs.Model.{Table}
 use Rattle.analysis.specs.declared.row.Row.{Row}
 use Rattle.analysis.specs.Loading.{record_byte, route_checks, route_checks_of}
-use Rattle.analysis.specs.Marks.{shares_with}
 use Rattle.analysis.specs.Rows.{taken, carried, Meets, Builds, RowFits, RowsFit}
 use Rattle.analysis.specs.Standing.{Ordered, InSlot, Stands, Standing, Apart}
 use Rattle.analysis.specs.Tables.{no_record, record_of, route_of, path_of, flits_of, table_of}

@@ -9,9 +9,9 @@ use Rattle.table.specs.declared.fault.LoadFault.TheVariants.{NoMemory}
 use Rattle.table.specs.Faults.{fault_number}
 use Rattle.std.proofs.lemmas.Bool.{both_ways}
 use Rattle.table.specs.Profiles.{profile_at}
-use Rattle.table.specs.File.{header_of, flows_of, flow_at}
+use Rattle.table.specs.File.{flows_of, flow_at}
 use Rattle.table.specs.Checks.{first_fault, size_checks, shape_checks, unlisted_checks, reserved_checks, profile_checks, header_checks, section_checks}
-use Rattle.table.proofs.Firsts.{both_passed, first_passed, first_failed}
+use Rattle.table.proofs.Firsts.{both_passed}
 use Rattle.parts.specs.declared.slot.Slot.{Slot}
 use Rattle.parts.specs.Slots.{slot_of, slot_for}
 use Rattle.analysis.specs.Loading.{misfit_checks, open_checks, profile_of, no_profile}

@@ -1,5 +1,5 @@
 -- A load from its parts. Assumes nothing.
-use Rattle.std.proofs.Common.{◌≡◌, ℕ, ◌<◌, Bool, List, ◌++◌, length, Some, None, Option, sym, refl, ap, ◌∙◌, subst}
+use Rattle.std.proofs.Common.{◌≡◌, ℕ, Bool, List, ◌++◌, length, Some, None, Option, sym, ap, ◌∙◌, subst}
 use Rattle.fabric.specs.Routes.{Route}
 use Rattle.table.specs.declared.fault.LoadFault.{LoadFault}
 use Rattle.table.specs.declared.header.Header.{Header}
@@ -10,7 +10,6 @@ use Rattle.table.specs.Checks.{first_fault, header_checks, section_checks}
 use Rattle.table.proofs.Firsts.{first_passed, first_failed}
 use Rattle.parts.specs.declared.slot.Slot.{Slot}
 use Rattle.parts.specs.Slots.{slot_for}
-use Rattle.timing.specs.Model.{Lawful}
 use Rattle.timing.proofs.Figures.{figures_are}
 use Rattle.analysis.specs.declared.row.Row.{Row}
 use Rattle.analysis.specs.Answers.{Exactly}
@@ -18,7 +17,7 @@ use Rattle.analysis.specs.Loading.{each_flow, misfit_checks, open_checks, record
 use Rattle.analysis.specs.Rows.{RowsFit}
 use Rattle.analysis.specs.Tables.{record_of}
 use Rattle.analysis.proofs.Laws.{lawful}
-use Rattle.analysis.proofs.Opening.{regrouped, flow_count, Opened, Sound, opened, slot_short}
+use Rattle.analysis.proofs.Opening.{regrouped, flow_count, Sound, opened, slot_short}
 
 -- the faults of the records, and of the routes
 abbrev records_of : ℕ → Header → Slot → List FlowRecord → ℕ → List (Bool × LoadFault)

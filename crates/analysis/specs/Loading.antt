@@ -2,7 +2,7 @@
 --   misfit_checks: the table against the medium's limit and the fabric's nodes
 --   record_checks: a flow's record; route_checks: its route, and whether a part can carry a flit
 --   load_checks: all of them, each with the fault that is told where it is the first that fails
-use Rattle.std.specs.Prelude.{ℕ, zero, suc, ◌+◌, ◌-◌, ◌*◌, Bool, true, false, not, ◌&&◌, ◌||◌, List, [], ◌∷◌, ◌++◌, length, is_err, Ok, Err, ◌==◌, nat_le, nat_lt}
+use Rattle.std.specs.Prelude.{ℕ, zero, suc, ◌+◌, ◌-◌, ◌*◌, Bool, not, ◌||◌, List, [], ◌∷◌, ◌++◌, length, is_err, Ok, Err, ◌==◌, nat_le, nat_lt}
 use Rattle.std.specs.Option.{unwrap_or}
 use Rattle.fabric.specs.declared.fault.RouteFault.{RouteFault}
 use Rattle.fabric.specs.declared.fault.Cause.TheVariants.{UnknownNode}
@@ -14,7 +14,7 @@ use Rattle.table.specs.declared.profile.Profile.{Profile}
 use Rattle.table.specs.declared.records.FlowRecord.{FlowRecord}
 use Rattle.table.specs.Profiles.{profile_at}
 use Rattle.table.specs.File.{header_of, flows_of}
-use Rattle.table.specs.Checks.{first_fault, outside, header_checks, section_checks}
+use Rattle.table.specs.Checks.{outside, header_checks, section_checks}
 use Rattle.parts.specs.declared.slot.Slot.{Slot}
 use Rattle.parts.specs.Slots.{slot_for}
 use Rattle.timing.specs.Model.{Table}

@@ -1,5 +1,5 @@
 -- Flows of higher priority that share a link, as a flow keeps them. Assumes nothing.
-use Rattle.std.specs.Prelude.{ℕ, ◌-◌, Bool, true, false, cond, ◌||◌, nat_lt, slice_index_or}
+use Rattle.std.specs.Prelude.{ℕ, ◌-◌, Bool, false, cond, ◌||◌, nat_lt, slice_index_or}
 use Rattle.fabric.specs.declared.path.Path.{Path}
 use Rattle.fabric.specs.Paths.{links_in, shares}
 use Rattle.analysis.specs.declared.above.Above.{Above}

@@ -1,7 +1,7 @@
 -- What the rows of a load hold. Assumes nothing.
 --   Builds: an answer is the first fault, or a value that keeps what is asked of it
 --   RowFits: a row tells of flow i; RowsFit: the rows tell of the first n flows
-use Rattle.std.specs.Prelude.{◌≡◌, ℕ, ◌+◌, ◌-◌, ◌*◌, ◌<◌, ◌≤◌, Bool, cond, List, length, Some, None, Ok, Err, Option, Result, ◌≢◌, nat_lt, slice_index_or}
+use Rattle.std.specs.Prelude.{◌≡◌, ℕ, ◌+◌, ◌<◌, cond, List, length, Some, None, Ok, Err, Option, Result, ◌≢◌, nat_lt, slice_index_or}
 use Rattle.fabric.specs.declared.path.Path.{Path}
 use Rattle.fabric.specs.Routes.{Route}
 use Rattle.fabric.specs.Paths.{links_in}
@@ -17,8 +17,8 @@ use Rattle.timing.specs.Model.{Table}
 use Rattle.analysis.specs.declared.row.Row.{Row}
 use Rattle.analysis.specs.Loading.{record_byte}
 use Rattle.analysis.specs.Marks.{shares_with}
-use Rattle.analysis.specs.Standing.{Stands, Standing}
-use Rattle.analysis.specs.Tables.{no_record, record_of, path_of, table_of}
+use Rattle.analysis.specs.Standing.{Stands}
+use Rattle.analysis.specs.Tables.{record_of, path_of, table_of}
 
 -- the first fault, unless there was no memory; or no fault, and a value as asked
 abbrev pub Builds : {X : Type 0} → Option LoadFault → (X → Type 0) → Result X LoadFault → Type 0

@@ -1,5 +1,5 @@
 -- The timing table of a flow table over a fabric: every figure of a flow, by its number. Assumes nothing.
-use Rattle.std.specs.Prelude.{ℕ, ◌-◌, ◌*◌, Bool, true, false, ◌&&◌, List, [], length, Ok, Err, nat_le, nat_lt, slice_index_or}
+use Rattle.std.specs.Prelude.{ℕ, ◌-◌, ◌*◌, Bool, ◌&&◌, List, [], length, Ok, Err, nat_le, nat_lt, slice_index_or}
 use Rattle.fabric.specs.Routes.{Route}
 use Rattle.fabric.specs.Paths.{shares}
 use Rattle.table.specs.declared.profile.Profile.{Profile}

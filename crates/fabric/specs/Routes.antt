@@ -2,7 +2,7 @@
 --   Route: the links in their order, or why there is no route
 --   Lawful: what every route from node s to node d keeps
 --   length_of, link_of, ends_of: the answers to a fabric's questions
-use Rattle.std.specs.Prelude.{◌≡◌, ℕ, ◌+◌, ◌-◌, ◌*◌, ◌<◌, ◌≤◌, Bool, true, false, cond, ◌||◌, List, [], ◌∷◌, length, Some, None, Ok, Err, Option, Result, ◌≢◌, nat_lt, slice_index}
+use Rattle.std.specs.Prelude.{◌≡◌, ℕ, ◌+◌, ◌-◌, ◌*◌, ◌<◌, ◌≤◌, cond, List, length, Some, None, Ok, Err, Option, Result, ◌≢◌, nat_lt, slice_index}
 use Rattle.fabric.specs.declared.route.Ends.{Ends}
 use Rattle.fabric.specs.declared.fault.RouteFault.{RouteFault}
 use Rattle.fabric.specs.declared.fault.Cause.TheVariants.{UnknownNode}

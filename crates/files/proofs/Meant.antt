@@ -1,5 +1,5 @@
 -- A fabric made from a file is the one that the file means, and its faults are the load's. Assumes nothing.
-use Rattle.std.proofs.Common.{◌≡◌, ℕ, ◌*◌, ◌≤◌, Bool, true, false, cond, not, ◌||◌, eqb, ltb, ◌⊎◌, List, [], ◌∷◌, ◌++◌, length, IfOk, Some, None, Ok, Err, vec_items, Option, Result, sym, refl, ap, ◌∙◌, subst, ap₂, inl, inr, arith}
+use Rattle.std.proofs.Common.{◌≡◌, ℕ, ◌*◌, ◌≤◌, Bool, cond, not, ◌||◌, List, ◌++◌, length, IfOk, Some, None, Ok, Err, vec_items, Option, Result, sym, refl, ap, ◌∙◌, subst, ap₂, arith}
 use Rattle.std.proofs.lemmas.Bool.{eq-eqb, le-ltb}
 use Rattle.std.proofs.lemmas.Bool.Decides.{nat_tests}
 use Rattle.fabric.specs.Routes.{Route}
@@ -8,7 +8,7 @@ use Rattle.table.specs.declared.fault.LoadFault.TheVariants.{NoMemory, Misfit}
 use Rattle.fabric.specs.declared.route.Ends.{Ends}
 use Rattle.table.specs.declared.records.RouteEntry.{RouteEntry}
 use Rattle.table.specs.declared.header.Header.{Header}
-use Rattle.table.specs.File.{header_of, links_of, numbers_of}
+use Rattle.table.specs.File.{header_of, links_of}
 use Rattle.table.specs.Checks.{first_fault, unless, size_checks, shape_checks, unlisted_checks, reserved_checks, profile_checks, header_checks, section_checks, checked_file}
 use Rattle.table.proofs.Firsts.{both_passed, first_passed, first_failed}
 use Rattle.mesh.specs.declared.mesh.Mesh.{Mesh}

@@ -3,7 +3,7 @@
 --   visited, heading, step_link: the node where step j begins, the direction it takes, and its link
 --   mesh_path: all links from node s to node d
 --   mesh_route: the same, or why there is no route
-use Rattle.std.specs.Prelude.{ℕ, ◌+◌, ◌-◌, ◌*◌, cond, ◌&&◌, List, [], ◌∷◌, ◌++◌, map, length, Ok, Err, nat_le, nat_lt}
+use Rattle.std.specs.Prelude.{ℕ, ◌+◌, ◌-◌, cond, ◌&&◌, List, [], ◌∷◌, ◌++◌, map, length, Ok, Err, nat_le, nat_lt}
 use Rattle.std.specs.List.{range_with_len}
 use Rattle.fabric.specs.declared.fault.Cause.TheVariants.{Length}
 use Rattle.fabric.specs.Routes.{Route, unknown_node}

@@ -1,7 +1,6 @@
 -- How large the figures of a split can get. Assumes nothing.
-use Rattle.std.proofs.Common.{◌≡◌, ℕ, ◌+◌, ◌-◌, ◌*◌, ◌/◌, ◌<◌, ◌≤◌, sym, ap, ◌∙◌, div-le_self, arith}
+use Rattle.std.proofs.Common.{ℕ, ◌-◌, ◌*◌, ◌≤◌, div-le_self, arith}
 use Rattle.table.specs.declared.profile.Profile.{Profile}
-use Rattle.timing.specs.Counts.{ceil_div}
 use Rattle.timing.proofs.Ceil.{ceil_le}
 use Rattle.parts.specs.Split.{capacity, parts_of, last_flits}
 

@@ -1,9 +1,9 @@
 -- One evaluation after the other of the search for a least solution. Assumes nothing.
-use Rattle.std.proofs.Common.{◌≡◌, ℕ, zero, suc, ◌+◌, ◌-◌, ◌<◌, ◌≤◌, Bool, true, false, cond, leb, ◌⊎◌, Some, None, Option, sym, refl, ap, ◌∙◌, subst, ap₂, inl, inr, arith}
+use Rattle.std.proofs.Common.{◌≡◌, ℕ, suc, ◌+◌, ◌-◌, ◌<◌, ◌≤◌, Bool, true, false, cond, leb, Some, None, Option, sym, refl, ap, ◌∙◌, subst, ap₂, inl, inr, arith}
 use Rattle.std.proofs.lemmas.Bool.{cond-true, cond-false, le-leb, lt-leb, leb-true, leb-false}
 use Rattle.staircase.specs.declared.search.Climb.{Climb}
 use Rattle.staircase.specs.Climbs.{climbed, Settles}
-use Rattle.timing.specs.Staircase.{Rising, Least, climb, rounds}
+use Rattle.timing.specs.Staircase.{Rising, climb, rounds}
 use Rattle.timing.proofs.Staircase.{climb_here, climb_past, climb_on, rounds_stop, rounds_on, found, missed}
 
 -- after n evaluations, the next being at x: as many as can still come give the rest of the answer

@@ -1,5 +1,5 @@
 -- Terms that charge for a window, and the demand that they add up to. Assumes nothing.
-use Rattle.std.specs.Prelude.{◌≡◌, ℕ, ◌+◌, ◌*◌, cond, List, Some, None, sum_by, Option, ◌==◌}
+use Rattle.std.specs.Prelude.{ℕ, ◌+◌, ◌*◌, cond, List, Some, None, sum_by, Option, ◌==◌}
 use Rattle.staircase.specs.declared.term.Term.{Term}
 use Rattle.timing.specs.Counts.{ceil_div}
 

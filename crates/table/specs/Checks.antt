@@ -2,7 +2,7 @@
 --   first_fault: the first check that fails
 --   checked_header: the header, or the fault of the size, a field or the profile
 --   checked_file: the same with the sections, what a fabric asks of its file
-use Rattle.std.specs.Prelude.{ℕ, ◌+◌, ◌*◌, Bool, true, false, cond, not, ◌&&◌, ◌||◌, List, [], ◌∷◌, ◌++◌, length, is_some, Some, None, Ok, Err, Option, Result, ◌==◌, nat_lt}
+use Rattle.std.specs.Prelude.{ℕ, ◌+◌, ◌*◌, Bool, cond, not, ◌&&◌, ◌||◌, List, [], ◌∷◌, ◌++◌, length, is_some, Some, None, Ok, Err, Option, Result, ◌==◌, nat_lt}
 use Rattle.table.specs.declared.fault.LoadFault.{LoadFault}
 use Rattle.table.specs.declared.fault.LoadFault.TheVariants.{Size, Field, Profile, Section}
 use Rattle.table.specs.declared.header.Header.{Header}

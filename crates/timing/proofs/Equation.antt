@@ -1,8 +1,7 @@
 -- The equation of a bound. Assumes nothing.
-use Rattle.std.proofs.Common.{◌≡◌, ℕ, zero, suc, ◌+◌, ◌-◌, ◌*◌, ◌<◌, ◌≤◌, Bool, true, false, cond, Some, None, Option, sym, refl, ap, ◌∙◌, suc-mul, add-mul, zero-mul, arith}
-use Rattle.std.proofs.lemmas.Bool.{cond-false}
+use Rattle.std.proofs.Common.{◌≡◌, ℕ, ◌+◌, ◌*◌, Bool, true, false, cond, Option, sym, refl, ◌∙◌, zero-mul}
 use Rattle.timing.specs.Counts.{sum_to, ceil_div}
-use Rattle.timing.specs.Model.{Table, Flow, Lawful, Bound, Bounds, within, figure, alone, jitter, share, delay, demand}
+use Rattle.timing.specs.Model.{Table, jitter, share, delay}
 use Rattle.timing.proofs.Sums.{sum_eq, sum_mul}
 
 times : (t : Bool) (p s : ℕ) → cond t (p * s) 0 ≡ cond t p 0 * s

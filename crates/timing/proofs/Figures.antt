@@ -1,9 +1,9 @@
 -- The bounds of a table are what they should be. Assumes nothing.
-use Rattle.std.proofs.Common.{◌≡◌, ℕ, zero, suc, ◌+◌, ◌-◌, ◌*◌, ◌/◌, ◌<◌, ◌≤◌, Bool, true, false, cond, not, ◌&&◌, ◌||◌, eqb, ltb, leb, ◌⊎◌, is_some as option_is_some, Some, None, Option, sym, refl, ap, ◌∙◌, subst, ap₂, inl, inr, arith}
+use Rattle.std.proofs.Common.{◌≡◌, ℕ, zero, suc, ◌+◌, ◌-◌, ◌*◌, ◌/◌, ◌<◌, ◌≤◌, Bool, true, false, cond, not, ◌&&◌, ◌||◌, eqb, leb, is_some as option_is_some, Some, None, Option, sym, refl, ap, ◌∙◌, ap₂, inl, inr, arith}
 use mathlib.Core.Path.{fun_ext}
 use Rattle.std.proofs.lemmas.Bool.{cases_lt, cases_Bool, both_ways, and_parts, and_from, or_cases, or_left, or_right, not-true, not_from_false, cond-true, cond-false, eq-eqb, ne_eqb, le-leb, leb-true}
-use Rattle.timing.specs.Counts.{sum_to, every_to, ceil_div}
-use Rattle.timing.specs.Model.{Table, Flow, Lawful, Bound, Bounds, within, figure, alone, jitter, share, delay, demand}
+use Rattle.timing.specs.Counts.{sum_to, ceil_div}
+use Rattle.timing.specs.Model.{Table, Flow, Lawful, within, figure, alone, jitter, share, delay, demand}
 use Rattle.timing.specs.Staircase.{Least, climb, rounds, Searched}
 use Rattle.timing.specs.Figures.{base, settled, searched, figure_of, bounds_to, bound_of, rounds_of, Exact, FiguresExact}
 use Rattle.timing.proofs.Sums.{sum_eq, every_true, every_eq, every_from}

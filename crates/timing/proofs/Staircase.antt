@@ -1,11 +1,11 @@
 -- The search for a least solution, and the staircases of a table. Assumes nothing.
-use Rattle.std.proofs.Common.{◌≡◌, ℕ, zero, suc, ◌+◌, ◌-◌, ◌*◌, ◌/◌, ◌<◌, ◌≤◌, Bool, true, false, cond, ◌||◌, eqb, ltb, ◌⊎◌, Some, None, Option, sym, refl, ap, ◌∙◌, subst, inl, inr, mul-le-mul_right, suc-mul, add-mul, lt_of_mul-lt-mul_right, mul-le-mul_left, le-div_iff_mul-le, zero-mul, arith}
-use Rattle.std.proofs.lemmas.Bool.{cases_lt, cases_Bool, cases_eq, both_ways, or_cases, or_parts, or_left, or_right, or_from, cond-true, cond-false, eq-eqb, ne_eqb, eqb-true, eqb-false, lt-ltb, le-ltb, ltb-true, ltb-false}
+use Rattle.std.proofs.Common.{◌≡◌, ℕ, zero, suc, ◌+◌, ◌-◌, ◌*◌, ◌/◌, ◌<◌, ◌≤◌, cond, ◌||◌, eqb, ltb, ◌⊎◌, Some, None, Option, sym, refl, ap, ◌∙◌, subst, inl, inr, mul-le-mul_right, suc-mul, lt_of_mul-lt-mul_right, le-div_iff_mul-le, zero-mul, arith}
+use Rattle.std.proofs.lemmas.Bool.{cases_lt, cases_Bool, cases_eq, or_left, or_right, or_from, cond-true, cond-false, eq-eqb, ne_eqb, lt-ltb, le-ltb}
 use Rattle.timing.specs.Counts.{sum_to, ceil_div}
-use Rattle.timing.specs.Model.{Table, Flow, Lawful, Bound, Bounds, alone, jitter, share, delay, demand}
-use Rattle.timing.specs.Staircase.{Rising, Least, climb, rounds, Searched, SearchFinds, DemandRises}
+use Rattle.timing.specs.Model.{Table, Flow, Lawful, alone, jitter, share, demand}
+use Rattle.timing.specs.Staircase.{Rising, Least, climb, rounds, SearchFinds, DemandRises}
 use Rattle.timing.proofs.Ceil.{ceil_mono}
-use Rattle.timing.proofs.Sums.{sum_le, sum_eq, sum_mul}
+use Rattle.timing.proofs.Sums.{sum_le}
 use Rattle.timing.proofs.Equation.{delays}
 use Rattle.timing.proofs.Options.{some_inj, none_some}
 

@@ -1,5 +1,5 @@
 -- The bounds of a table: for each flow in turn the least solution of its equation, if that is within the deadline. Assumes nothing.
-use Rattle.std.specs.Prelude.{◌≡◌, ℕ, zero, suc, ◌+◌, ◌-◌, ◌*◌, ◌/◌, ◌<◌, ◌≤◌, Bool, true, false, cond, not, ◌&&◌, ◌||◌, is_some, Some, None, Option, ◌==◌, nat_le}
+use Rattle.std.specs.Prelude.{◌≡◌, ℕ, zero, suc, ◌+◌, ◌-◌, ◌/◌, ◌≤◌, Bool, true, cond, not, ◌&&◌, ◌||◌, is_some, Some, None, Option, ◌==◌, nat_le}
 use Rattle.timing.specs.Counts.{every_to}
 use Rattle.timing.specs.Model.{Table, Flow, Lawful, Bounds, alone, demand}
 use Rattle.timing.specs.Staircase.{Least, climb, rounds}

@@ -3,7 +3,7 @@
 --   alone: a packet's time with nobody else about; jitter, delay: what a flow above adds to it
 --   demand: the right side of the equation of a bound
 --   Bounds: figures that solve the equations
-use Rattle.std.specs.Prelude.{◌≡◌, ℕ, zero, suc, ◌+◌, ◌-◌, ◌*◌, ◌<◌, ◌≤◌, Bool, true, false, cond, not, ◌&&◌, ◌||◌, Some, None, Option}
+use Rattle.std.specs.Prelude.{◌≡◌, ℕ, ◌+◌, ◌-◌, ◌*◌, ◌<◌, ◌≤◌, Bool, true, cond, not, ◌||◌, Some, None, Option}
 use Rattle.timing.specs.Counts.{sum_to, every_to, ceil_div}
 
 -- Times are in cycles. Flows are numbered from 1 to z, 1 having the highest priority.

@@ -1,7 +1,7 @@
 -- The least solution of f x ≡ x, for an f that never falls, and the search for it. Assumes nothing.
-use Rattle.std.specs.Prelude.{◌≡◌, ℕ, zero, suc, ◌+◌, ◌-◌, ◌*◌, ◌/◌, ◌<◌, ◌≤◌, Bool, true, false, cond, ◌||◌, ◌⊎◌, Some, None, Option, ◌==◌, nat_lt}
+use Rattle.std.specs.Prelude.{◌≡◌, ℕ, zero, suc, ◌+◌, ◌-◌, ◌*◌, ◌/◌, ◌<◌, ◌≤◌, cond, ◌||◌, Some, None, Option, ◌==◌, nat_lt}
 use Rattle.timing.specs.Counts.{sum_to}
-use Rattle.timing.specs.Model.{Table, Flow, Lawful, Bounds, alone, share, demand}
+use Rattle.timing.specs.Model.{Table, Flow, Lawful, alone, share, demand}
 
 abbrev pub Rising : (ℕ → ℕ) → Type 0
 Rising f = (x y : ℕ) → x ≤ y → f x ≤ f y

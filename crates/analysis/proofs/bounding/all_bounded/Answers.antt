@@ -1,10 +1,10 @@
-use Rattle.std.proofs.Common.{◌≡◌, ℕ, ◌+◌, ◌<◌, ◌≤◌, Bool, true, false, not, ◌&&◌, ◌||◌, List, length, get_or, is_some, Option, sym, ap, ◌∙◌, ap₂, inl, inr, arith}
+use Rattle.std.proofs.Common.{◌≡◌, ℕ, ◌+◌, ◌<◌, Bool, not, ◌&&◌, ◌||◌, List, length, get_or, is_some, Option, sym, ap, ◌∙◌, ap₂, inl, inr, arith}
 use Rattle.std.proofs.lemmas.Bool.{cases_lt}
 use Rattle.timing.specs.Model.{Table}
 use Rattle.timing.specs.Figures.{settled, bound_of}
 use Rattle.timing.proofs.Sums.{every_from, every_false}
 use Rattle.analysis.specs.declared.row.Row.{Row}
-use Rattle.analysis.specs.Standing.{Ordered, Marks, Stands, Standing}
+use Rattle.analysis.specs.Standing.{Standing}
 use Rattle.analysis.proofs.Ways.{none_first, holds_when_free, implied, refuted, not_some}
 use Rattle.analysis.proofs.bounding.all_bounded.Goals as goal
 

@@ -1,4 +1,4 @@
-use Rattle.std.proofs.Common.{◌≡◌, ℕ, ◌+◌, ◌<◌, ◌≤◌, true, not, ◌||◌, length, is_some}
+use Rattle.std.proofs.Common.{◌≡◌, ℕ, ◌+◌, ◌≤◌, true, not, ◌||◌, length, is_some}
 use Rattle.timing.specs.Model.{Table}
 use Rattle.timing.specs.Figures.{bound_of}
 use Rattle.analysis.specs.Standing.{Ordered, Marks, Standing}

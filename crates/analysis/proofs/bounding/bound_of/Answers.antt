@@ -1,8 +1,5 @@
-use Rattle.std.proofs.Common.{◌≡◌, ℕ, ◌+◌, ◌-◌, ◌*◌, ◌<◌, ◌≤◌, Bool, true, false, not, ◌||◌, ltb, length, sym, ap, ◌∙◌, arith}
+use Rattle.std.proofs.Common.{◌+◌, not, ltb, length, sym, ◌∙◌, arith}
 use Rattle.std.proofs.lemmas.Bool.{or_parts, not-false, ltb-false}
-use Rattle.timing.specs.Model.{Table}
-use Rattle.timing.specs.Figures.{base}
-use Rattle.analysis.specs.Standing.{Ordered, InSlot}
 use Rattle.analysis.proofs.Figuring.{unbounded, demand_is, found, start_is}
 use Rattle.analysis.proofs.bounding.bound_of.Goals as goal
 

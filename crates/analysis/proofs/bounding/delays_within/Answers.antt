@@ -1,8 +1,7 @@
-use Rattle.std.proofs.Common.{◌≡◌, ℕ, ◌+◌, ◌<◌, ◌≤◌, Bool, true, false, not, ◌&&◌, ◌||◌, sym, ap, ◌∙◌, ap₂, inl, inr, arith}
-use Rattle.std.proofs.lemmas.Bool.{cases_lt, cases_eq}
-use Rattle.timing.specs.Model.{Table, within}
+use Rattle.std.proofs.Common.{◌≡◌, ℕ, ◌<◌, ◌≤◌, Bool, not, ◌&&◌, ◌||◌, sym, ap, ◌∙◌, ap₂, inl, inr, arith}
+use Rattle.std.proofs.lemmas.Bool.{cases_lt}
+use Rattle.timing.specs.Model.{within}
 use Rattle.timing.proofs.Sums.{every_from, every_false}
-use Rattle.analysis.specs.Standing.{Ordered, Marks, Stands}
 use Rattle.analysis.proofs.Ways.{none_first, holds_when_free, implied, refuted}
 use Rattle.analysis.proofs.bounding.delays_within.Goals as goal
 

@@ -1,7 +1,6 @@
-use Rattle.std.proofs.Common.{◌≡◌, ℕ, ◌+◌, ◌<◌, ◌≤◌, Bool, true, false, cond, ltb, List, [], ◌∷◌, ◌++◌, length, get_or, is_ok, vec_items, sum_by, sym, ap, ◌∙◌, subst, arith}
-use Rattle.std.proofs.lemmas.Bool.{both_ways, ltb-false}
+use Rattle.std.proofs.Common.{◌≡◌, ℕ, ◌+◌, ◌<◌, ◌≤◌, length, vec_items, sum_by, sym, ap, ◌∙◌, subst, arith}
+use Rattle.std.proofs.lemmas.Bool.{ltb-false}
 use Rattle.staircase.specs.declared.demand.Demand.{Demand}
-use Rattle.staircase.specs.declared.term.Term.{Term}
 use Rattle.staircase.specs.Terms.{charge}
 use Rattle.timing.specs.Counts.{sum_to}
 use Rattle.timing.specs.Model.{Table, delay}

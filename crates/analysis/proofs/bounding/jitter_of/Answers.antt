@@ -1,6 +1,6 @@
 use Rattle.std.proofs.Common.{◌≡◌, ℕ, ◌+◌, ◌-◌, Option, unwrap_or, sym, ap, ◌∙◌, arith}
 use Rattle.std.proofs.lemmas.Bool.{cond-true, cond-false}
-use Rattle.timing.specs.Model.{Table, within, figure, alone, jitter}
+use Rattle.timing.specs.Model.{within, figure, alone, jitter}
 use Rattle.timing.specs.Figures.{bound_of}
 use Rattle.analysis.proofs.Ways.{figure_or}
 use Rattle.analysis.proofs.bounding.jitter_of.Goals as goal

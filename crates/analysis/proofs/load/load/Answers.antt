@@ -1,10 +1,9 @@
-use Rattle.std.proofs.Common.{◌≡◌, ℕ, ◌+◌, ◌-◌, ◌^◌, ◌<◌, ◌≤◌, Bool, true, false, List, length, get_or, is_some, Some, None, vec_items, Option, sym, refl, ap, ◌∙◌, subst, ap₂, arith}
+use Rattle.std.proofs.Common.{◌≡◌, ℕ, ◌+◌, ◌-◌, ◌^◌, ◌<◌, ◌≤◌, length, get_or, is_some, Some, None, Option, sym, ap, ◌∙◌, subst, ap₂, arith}
 use Rattle.std.proofs.lemmas.Result.{IfOk-from_err}
 use Rattle.std.proofs.lemmas.Bool.{both_ways}
 use Rattle.table.specs.declared.fault.LoadFault.TheVariants.{NoMemory}
 use Rattle.table.specs.declared.header.Header.{Header}
 use Rattle.table.specs.declared.profile.Profile.{Profile}
-use Rattle.table.specs.declared.records.FlowRecord.{FlowRecord}
 use Rattle.table.specs.File.{header_of, flows_of}
 use Rattle.table.specs.Profiles.{profile_at}
 use Rattle.table.specs.Checks.{first_fault}

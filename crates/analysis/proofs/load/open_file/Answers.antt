@@ -1,4 +1,4 @@
-use Rattle.std.proofs.Common.{◌≡◌, ◌++◌, length, Ok, Err, sym, refl, ap, ◌∙◌}
+use Rattle.std.proofs.Common.{◌++◌, length, Ok, sym, ap, ◌∙◌}
 use Rattle.table.specs.declared.header.Header.{Header}
 use Rattle.table.specs.File.{header_of}
 use Rattle.table.specs.Checks.{checked_header, first_fault, unless, header_checks, section_checks}

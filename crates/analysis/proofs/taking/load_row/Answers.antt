@@ -1,4 +1,4 @@
-use Rattle.std.proofs.Common.{◌<◌, ◌≤◌, arith}
+use Rattle.std.proofs.Common.{arith}
 use Rattle.analysis.proofs.Loads.{row_fits}
 use Rattle.analysis.proofs.taking.load_row.Goals as goal
 

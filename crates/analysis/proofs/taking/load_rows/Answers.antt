@@ -1,9 +1,7 @@
-use Rattle.std.proofs.Common.{◌≡◌, ℕ, ◌+◌, ◌-◌, ◌<◌, ◌≤◌, Bool, cond, List, [], ◌∷◌, ◌++◌, length, get_or, is_ok, Some, None, Ok, Err, vec_items, sym, refl, ap, ◌∙◌, subst, arith}
-use Rattle.table.specs.declared.records.FlowRecord.{FlowRecord}
+use Rattle.std.proofs.Common.{◌≡◌, ℕ, ◌+◌, length, Some, None, Ok, Err, vec_items, sym, refl, ap, ◌∙◌, subst, arith}
 use Rattle.table.specs.Checks.{first_fault}
-use Rattle.analysis.specs.declared.row.Row.{Row}
 use Rattle.analysis.specs.Loading.{each_flow, route_checks_of}
-use Rattle.analysis.specs.Rows.{RowsFit, RowFits}
+use Rattle.analysis.specs.Rows.{RowsFit}
 use Rattle.analysis.proofs.Built.{built_fault, built_nothing}
 use Rattle.analysis.proofs.Loads.{no_rows, row_more, turn_built, apart_from}
 use Rattle.analysis.proofs.Turns.{none_yet, turn_is, stays}

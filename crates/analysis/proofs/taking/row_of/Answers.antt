@@ -1,4 +1,4 @@
-use Rattle.std.proofs.Common.{◌≡◌, ℕ, ◌+◌, ◌-◌, ◌*◌, ◌^◌, ◌<◌, ◌≤◌, length, sym, refl, ap, ◌∙◌, ap₂, mul-le-mul, arith}
+use Rattle.std.proofs.Common.{◌≡◌, ℕ, ◌+◌, ◌-◌, ◌*◌, ◌≤◌, length, refl, ap, ◌∙◌, ap₂, mul-le-mul, arith}
 use Rattle.timing.specs.Model.{Table, alone}
 use Rattle.analysis.specs.declared.row.Row.{Row}
 use Rattle.analysis.proofs.Marking.{marks_from}

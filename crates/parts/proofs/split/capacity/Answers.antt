@@ -1,4 +1,3 @@
-use Rattle.std.proofs.Common.{rules}
 use Rattle.parts.specs.Split.{capacity}
 use Rattle.parts.proofs.split.capacity.Goals as goal
 

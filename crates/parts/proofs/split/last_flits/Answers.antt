@@ -1,4 +1,4 @@
-use Rattle.std.proofs.Common.{◌≡◌, ◌-◌, ◌*◌, ◌<◌, ◌≤◌, sym, ap, ◌∙◌, ap₂, mul-pos, arith}
+use Rattle.std.proofs.Common.{◌≡◌, ◌-◌, ◌*◌, ◌<◌, ap, ◌∙◌, ap₂, mul-pos, arith}
 use Rattle.parts.specs.Split.{parts_of, last_flits}
 use Rattle.timing.specs.Counts.{ceil_div}
 use Rattle.timing.proofs.Ceil.{full_below}

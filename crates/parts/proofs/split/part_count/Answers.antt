@@ -1,4 +1,4 @@
-use Rattle.std.proofs.Common.{◌≡◌, ◌*◌, ◌<◌, ◌≤◌, sym, ap, ◌∙◌, mul-pos, arith}
+use Rattle.std.proofs.Common.{◌*◌, ◌<◌, mul-pos, arith}
 use Rattle.parts.specs.Split.{parts_of}
 use Rattle.timing.specs.Counts.{ceil_div}
 use Rattle.timing.proofs.Ceil.{ceil_le}

@@ -1,5 +1,4 @@
 use Rattle.std.proofs.Common.{◌≤◌, arith}
-use Rattle.parts.specs.Split.{capacity, last_flits}
 use Rattle.parts.proofs.Sizes.{capacity_le, last_le}
 use Rattle.parts.proofs.split.split_packet.Goals as goal
 

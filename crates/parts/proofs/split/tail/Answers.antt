@@ -1,4 +1,4 @@
-use Rattle.std.proofs.Common.{◌≡◌, ◌+◌, ◌*◌, ◌≤◌, ◌∙◌, mul-le-mul, arith}
+use Rattle.std.proofs.Common.{◌+◌, ◌≤◌, mul-le-mul, arith}
 use Rattle.parts.specs.Split.{tail_of}
 use Rattle.parts.proofs.split.tail.Goals as goal
 

@@ -1,5 +1,5 @@
-use Rattle.std.proofs.Common.{◌≡◌, ◌<◌, ◌≤◌, sym, refl, ap, ◌∙◌, arith}
-use Rattle.staircase.proofs.Steps.{begins, goes_on, ends_here, ends_past, none_made, settled}
+use Rattle.std.proofs.Common.{◌<◌, sym, ◌∙◌, arith}
+use Rattle.staircase.proofs.Steps.{goes_on, ends_here, ends_past, none_made, settled}
 use Rattle.staircase.proofs.Limits.{within_some, within_none}
 use Rattle.staircase.proofs.search.least_solution.Goals as goal
 

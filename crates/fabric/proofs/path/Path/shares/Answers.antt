@@ -1,4 +1,4 @@
-use Rattle.std.proofs.Common.{◌≡◌, ◌<◌, ◌≤◌, length, sym, refl, ap, ◌∙◌, arith}
+use Rattle.std.proofs.Common.{◌<◌, ◌≤◌, length, sym, refl, ap, ◌∙◌, arith}
 use Rattle.fabric.specs.Paths.{links_in, has}
 use Rattle.fabric.proofs.Kept.{kept_length, kept_link}
 use Rattle.fabric.proofs.Sharing.{shares_here, shares_on, shares_none}

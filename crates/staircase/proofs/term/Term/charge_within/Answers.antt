@@ -1,6 +1,5 @@
-use Rattle.std.proofs.Common.{◌≡◌, ◌*◌, ◌^◌, ◌<◌, ◌≤◌, sym, ◌∙◌, inl, inr, arith}
+use Rattle.std.proofs.Common.{◌*◌, ◌^◌, ◌∙◌, inl, inr, arith}
 use Rattle.std.proofs.lemmas.Bool.{cases_lt}
-use Rattle.staircase.specs.Terms.{charge}
 use Rattle.staircase.proofs.Limits.{fits, passes}
 use Rattle.staircase.specs.Charges.{charge_is}
 use Rattle.staircase.proofs.term.Term.charge_within.Goals as goal
