@@ -21,21 +21,21 @@ column_below w a wide = mod_below a w wide
 pub row_below : (w h a : ℕ) → 0 < w → a < w * h → row w a < h
 row_below w h a wide less = let e = mul_comm w h in div_below a w h wide (omega arith)
 
-pub place_of_lem : (w a : ℕ) → node_at w (column w a) (row w a) ≡ a
-place_of_lem w a = div-add-mod' a w
+pub place_of : (w a : ℕ) → node_at w (column w a) (row w a) ≡ a
+place_of w a = div-add-mod' a w
 
 -- the walk begins at the source, ends at the destination and stays in the mesh
 pub visited_first : (w s d : ℕ) → visited w s d 0 ≡ s
 visited_first w s d =
     let none : 0 - steps_x w s d ≡ 0 = omega arith in
-    ap (λ x. node_at w x (row_on w s d 0)) (toward_start _ _) ∙ ap (λ k. node_at w (column w s) (toward (row w s) (row w d) k)) none ∙ ap (λ y. node_at w (column w s) y) (toward_start _ _) ∙ place_of_lem w s
+    ap (λ x. node_at w x (row_on w s d 0)) (toward_start _ _) ∙ ap (λ k. node_at w (column w s) (toward (row w s) (row w d) k)) none ∙ ap (λ y. node_at w (column w s) y) (toward_start _ _) ∙ place_of w s
 
 pub visited_last : (w s d : ℕ) → visited w s d (steps_x w s d + steps_y w s d) ≡ d
 visited_last w s d =
     let t = steps_x w s d + steps_y w s d in
     let x : column_on w s d t ≡ column w d = toward_end _ _ t (omega arith) in
     let y : row_on w s d t ≡ row w d = toward_end _ _ (t - steps_x w s d) (omega arith) in
-    ap (λ c. node_at w c (row_on w s d t)) x ∙ ap (λ r. node_at w (column w d) r) y ∙ place_of_lem w d
+    ap (λ c. node_at w c (row_on w s d t)) x ∙ ap (λ r. node_at w (column w d) r) y ∙ place_of w d
 
 pub column_on_below : (w s d j : ℕ) → 0 < w → column_on w s d j < w
 column_on_below w s d j wide = toward_within _ _ j w (column_below w s wide) (column_below w d wide)
