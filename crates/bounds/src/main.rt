@@ -3,9 +3,9 @@
 
 use analysis::figures::Figures;
 use analysis::loaded::Loaded;
-use anyhow::anyhow;
 use files::load_file;
 use std::io::Read;
+use std::process::ExitCode;
 
 fn print_figures(rt: &HostRuntime, flow: usize, figures: &Figures) -> anyhow::Result<()> {
     let hops = figures.hops;
@@ -29,16 +29,19 @@ fn print_table(rt: &HostRuntime, loaded: &Loaded) -> anyhow::Result<()> {
     Ok(())
 }
 
-fn main(rt: HostRuntime) -> anyhow::Result<()> {
+fn main(rt: HostRuntime) -> anyhow::Result<ExitCode> {
     let heap = rt.alloc();
     // One byte more than the longest table shows that a file is too long.
     let mut file = Vec::new(heap);
     rt.stdin().take(65_536).read_to_end(&mut file)?;
     match load_file(heap, file.as_slice()) {
-        Ok(loaded) => print_table(&rt, &loaded),
+        Ok(loaded) => {
+            print_table(&rt, &loaded)?;
+            Ok(ExitCode::SUCCESS)
+        }
         Err(fault) => {
             println!(rt; "{fault}")?;
-            Err(anyhow!("the table is refused"))
+            Ok(ExitCode::FAILURE)
         }
     }
 }

@@ -35,7 +35,7 @@ pub trait Medium {
     // The level of interval k, from 0, or none where it was not opened. Reading changes nothing.
     fn read(&self, k: usize) -> Option<Level>
         ensures answer { result ≡ read_at (levels self.now) k }
-        ensures after { levels self.now ≡ levels self.now };
+        ensures after { levels self.exit.now ≡ levels self.entry.now };
 
     // The list never passes the limit.
     ghost within: { (m : Self) → length (levels m) ≤ most };

@@ -1,5 +1,5 @@
 // The worked cases: each is a file with what loading it over the mesh that it means must answer.
-ghost use Rattle.std.specs.List.{AllByRecursion as All};
+ghost use Rattle.std.specs.List.{AllByRecursion};
 ghost use Rattle.vectors.specs.Cases.{Holds};
 
 use crate::case::{Case, Outcome};
@@ -8,7 +8,7 @@ use table::fault::LoadFault;
 
 // Every case of the array holds of the definitions.
 pub fn cases() -> [Case; 5]
-    ensures { All Holds result }
+    ensures { AllByRecursion Holds result }
 {
     [
         // The three-flow table.
