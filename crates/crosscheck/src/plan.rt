@@ -1,7 +1,7 @@
 // A table before it is written out, and how it is drawn.
 use crate::dice::Dice;
 use crate::recipe::{Recipe, Times};
-use crate::second::parts::cut_up;
+use crate::second::cutting::cut_up;
 use crate::second::records::Slot;
 use crate::second::routes::Link;
 use crate::shape::{Shape, links_of, way, with_detour};

@@ -2,7 +2,7 @@
 pub mod bounds;
 pub mod bytes;
 pub mod checks;
-pub mod parts;
+pub mod cutting;
 pub mod records;
 pub mod routes;
 pub mod whole;

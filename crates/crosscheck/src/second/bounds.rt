@@ -1,5 +1,5 @@
 // The bound of each flow, by trying every number up to its deadline, and its rounds, by counting.
-use crate::second::parts::Cut;
+use crate::second::cutting::Cut;
 use crate::second::records::{Record, Slot};
 use std::alloc::{AllocError, Global};
 

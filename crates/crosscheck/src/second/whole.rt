@@ -4,7 +4,7 @@ use crate::case::Case;
 use crate::second::bounds::{Carried, settle_all};
 use crate::second::bytes::flow_count;
 use crate::second::checks::{wrong_file, wrong_record};
-use crate::second::parts::cut_up;
+use crate::second::cutting::cut_up;
 use crate::second::records::{Slot, record_of, slot_of};
 use crate::second::routes::{Route, route_of};
 use std::alloc::{AllocError, Global};
