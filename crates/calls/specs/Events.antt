@@ -2,7 +2,7 @@
 --   no_record: what a read past the end of a ledger gives
 --   call_of: the call of an event, without its answer
 --   first_refusal: the first check of a list that applies
-use Rattle.std.specs.Prelude.{Bool, true, false, cond, List, [], ◌∷◌, Some, None, Option}
+use Rattle.std.specs.Prelude.{Bool, false, cond, List, [], ◌∷◌, Some, None, Option}
 use Rattle.calls.specs.declared.record.Record.{Record}
 use Rattle.calls.specs.declared.refusal.Refusal.{Refusal}
 use Rattle.calls.specs.declared.event.Call.{Call}
