@@ -2,7 +2,7 @@
 use Rattle.std.proofs.Common.{◌≡◌, ℕ, suc, ◌+◌, ◌-◌, ◌*◌, ◌<◌, ◌≤◌, Bool, true, false, cond, not, ◌&&◌, eqb, ltb, ◌⊎◌, List, [], ◌∷◌, ◌++◌, map, Some, None, Option, sym, refl, ap, ◌∙◌, ap₂, inl, inr, mul-le-mul_right, suc-mul, arith}
 use Rattle.std.proofs.lemmas.Bool.{cases_lt, cases_eq, cases_Bool, both_ways, and_parts, and_from, or_cases, or_parts, or_left, or_right, eq-eqb, eqb-true, lt-ltb, le-ltb, ltb-true, ltb-false}
 use Rattle.std.proofs.ByRecursion.{All-push, All-map, All-weaker}
-use Rattle.std.specs.List.{AllByRecursion as All}
+use Rattle.std.specs.List.{AllByRecursion}
 use Rattle.timing.specs.Counts.{one}
 use Rattle.timing.specs.Model.{Table, Lawful, Bounds}
 use Rattle.packets.specs.Runs.{Run, waiting, before, left, grants}
@@ -31,7 +31,7 @@ module _ (b : Table) where
     pub rest : p.grants < b.w p.flow → Wait rel n p.flow + p.grants ≡ b.w p.flow
 
   pub record Link (rel : ℕ → ℕ → Option ℕ) (n : ℕ) (ps : List Packet) : Type 0 where
-    pub all : All (Tied rel n) ps
+    pub all : AllByRecursion (Tied rel n) ps
     pub some : (i : ℕ) → 0 < Wait rel n i → wants b ps i ≡ true
 
   pub open_lt : (p : Packet) → is_open b p ≡ true → p.grants < b.w p.flow
@@ -69,7 +69,7 @@ module _ (b : Table) where
   wants_none i = refl
 
   -- a flow that wants has parts that wait
-  pub wants_waits : (rel : ℕ → ℕ → Option ℕ) (n i : ℕ) (ps : List Packet) → All (Tied rel n) ps → wants b ps i ≡ true → 0 < Wait rel n i
+  pub wants_waits : (rel : ℕ → ℕ → Option ℕ) (n i : ℕ) (ps : List Packet) → AllByRecursion (Tied rel n) ps → wants b ps i ≡ true → 0 < Wait rel n i
   wants_waits rel n i [] all e = absurd (both_ways (wants b [] i) (wants_none i) e)
   wants_waits rel n i (p ∷ ps) all e =
       elim (wants_cases p ps i e) [
@@ -154,7 +154,7 @@ module _ (b : Table) where
         ]
 
     some_next :
-        (won : ℕ → Bool) → ((i : ℕ) → won i ≡ winners b rel n i) → (i : ℕ) → 0 < Wait rel (suc n) i → (ps : List Packet) → All (Tied rel n) ps →
+        (won : ℕ → Bool) → ((i : ℕ) → won i ≡ winners b rel n i) → (i : ℕ) → 0 < Wait rel (suc n) i → (ps : List Packet) → AllByRecursion (Tied rel n) ps →
         wants b ps i ≡ true → wants b (map (counted b won) ps) i ≡ true
     some_next won same i pos [] all e = e
     some_next won same i pos (p ∷ ps) all e =
@@ -213,7 +213,7 @@ module _ (b : Table) where
         at : (p.first ≡ n) × (p.flow ≡ j) → rel n j ≡ rel p.first p.flow
         at e = ap₂ rel (sym e.0) (sym e.1)
 
-    all_kept : (ps : List Packet) → All (Tied rel n) ps → wants b ps j ≡ false → All (Tied rel' n) ps
+    all_kept : (ps : List Packet) → AllByRecursion (Tied rel n) ps → wants b ps j ≡ false → AllByRecursion (Tied rel' n) ps
     all_kept [] all e = tt
     all_kept (p ∷ ps) all e =
         (tied_kept p all.0 (λ lt same. both_ways (wants b (p ∷ ps) j) e (wants_here p ps j same lt)), all_kept ps all.1 (wants_rest p ps j e))
@@ -354,11 +354,11 @@ module _ (b : Table) (law : Lawful b) where
         ]
 
     -- the packets of the ledger, with the tie of each
-    both : (l : List Call) → (ps : List Packet) → All (Tied b (rel_of l) (slot_of l)) ps → All KeptArrived ps → All (λ p. Tied b (rel_of l) (slot_of l) p × KeptArrived p) ps
+    both : (l : List Call) → (ps : List Packet) → AllByRecursion (Tied b (rel_of l) (slot_of l)) ps → AllByRecursion KeptArrived ps → AllByRecursion (λ p. Tied b (rel_of l) (slot_of l) p × KeptArrived p) ps
     both l [] xs ys = tt
     both l (p ∷ ps) xs ys = ((xs.0, ys.0), both l ps xs.1 ys.1)
 
-    all_arrived : (l : List Call) → Accepted b l → All KeptArrived (ledger b l)
+    all_arrived : (l : List Call) → Accepted b l → AllByRecursion KeptArrived (ledger b l)
     unfolding ledger
     all_arrived [] ok = tt
     all_arrived (release j t ∷ l) ok =
@@ -385,7 +385,7 @@ module _ (b : Table) (law : Lawful b) where
 
     next_free :
         (l : List Call) (ok : Accepted b l) (i y s t : ℕ) → R i ≡ Some y → last_of l i ≡ Some s → s + b.T i ≤ t → t < slot_of l * b.S + b.e i →
-        (ps : List Packet) → All (Tied b (rel_of l) (slot_of l)) ps → wants b ps i ≡ true → ⊥
+        (ps : List Packet) → AllByRecursion (Tied b (rel_of l) (slot_of l)) ps → wants b ps i ≡ true → ⊥
     next_free l ok i y s t bound last apart ahead [] all e = both_ways (wants b [] i) (wants_none b i) e
     next_free l ok i y s t bound last apart ahead (p ∷ ps) all e =
         elim (wants_cases b p ps i e) [

@@ -1,7 +1,7 @@
 -- A flow has at most one open packet, so a slot's grants and denials can be written one flow at a time. Assumes nothing.
 use Rattle.std.proofs.Common.{◌≡◌, ℕ, zero, suc, ◌<◌, ◌≤◌, Bool, true, false, cond, ltb, List, [], ◌∷◌, ◌++◌, map, length, get_or, set, sym, refl, ◌∙◌, subst, ap₂, inl, inr, arith}
 use Rattle.std.proofs.lemmas.Bool.{cases_lt, both_ways, cond-true, cond-false, lt-ltb, le-ltb}
-use Rattle.std.specs.List.{AllByRecursion as All}
+use Rattle.std.specs.List.{AllByRecursion}
 use Rattle.timing.specs.Model.{Table}
 use Rattle.packets.specs.Calls.{Call, release, inject, slot_of, Packet, wants, granted, counted, ledger, Accepted}
 use Rattle.packets.proofs.Steps.{counted_flow}
@@ -115,7 +115,7 @@ module _ (b : Table) where
   upto_none won [] = refl
   upto_none won (p ∷ ps) = ap₂ ◌∷◌ (upto_above won 0 p (omega arith)) (upto_none won ps)
 
-  pub upto_all : (won : ℕ → Bool) (n : ℕ) (ps : List Packet) → All (λ p. p.flow < n) ps → map (upto won n) ps ≡ map (counted b won) ps
+  pub upto_all : (won : ℕ → Bool) (n : ℕ) (ps : List Packet) → AllByRecursion (λ p. p.flow < n) ps → map (upto won n) ps ≡ map (counted b won) ps
   upto_all won n [] all = refl
   upto_all won n (p ∷ ps) all = ap₂ ◌∷◌ (upto_below won n p all.0) (upto_all won n ps all.1)
 

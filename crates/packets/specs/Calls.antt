@@ -1,6 +1,6 @@
 -- A run by its accepted calls, the newest first: which packets they make, and what is proved of each. Assumes nothing.
 use Rattle.std.specs.Prelude.{◌≡◌, ℕ, zero, suc, ◌+◌, ◌-◌, ◌*◌, ◌<◌, ◌≤◌, Bool, true, false, cond, not, ◌&&◌, ◌||◌, ltb, List, [], ◌∷◌, ◌++◌, map, length, get_or, Some, None, Option, ◌==◌, nat_lt, slice_index_or}
-use Rattle.std.specs.List.{AllByRecursion as All}
+use Rattle.std.specs.List.{AllByRecursion}
 use Rattle.timing.specs.Counts.{some_to, one}
 use Rattle.timing.specs.Model.{Table, Flow, Lawful, Bounds}
 
@@ -86,7 +86,7 @@ pub record Kept (b : Table) (R : ℕ → Option ℕ) (n : ℕ) (p : Packet) : Ty
 
 abbrev pub CallsInBound : Type 0
 CallsInBound =
-    (b : Table) → Lawful b → (R : ℕ → Option ℕ) → Bounds b R → (l : List Call) → Accepted b l → All (Kept b R (slot_of l)) (ledger b l)
+    (b : Table) → Lawful b → (R : ℕ → Option ℕ) → Bounds b R → (l : List Call) → Accepted b l → AllByRecursion (Kept b R (slot_of l)) (ledger b l)
 
 -- a bounded flow's packet is gone when its next may be released
 abbrev pub NextFree : Type 0
