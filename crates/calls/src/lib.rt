@@ -2,6 +2,7 @@
 #![tactic(auto)]
 
 pub mod event;
+pub mod load_refusal;
 pub mod record;
 pub mod refusal;
 pub mod report;

@@ -5,7 +5,7 @@ use Rattle.std.proofs.lemmas.Bool.{both_ways, cases_Bool, le-leb, ltb-false, or_
 use Rattle.analysis.specs.declared.row.Row.{Row}
 use Rattle.analysis.specs.Answers.{Exactly}
 use Rattle.analysis.specs.Loading.{load_checks, flow_checks, misfit_checks, profile_of, timing_of}
-use Rattle.analysis.specs.Rows.{RowsFit, RowFits, no_flow}
+use Rattle.analysis.specs.Rows.{RowsFit, RowFits}
 use Rattle.analysis.specs.Standing.{InSlot, Stands}
 use Rattle.analysis.specs.Tables.{table_of, path_of}
 use Rattle.analysis.proofs.Loads.{in_slot}
@@ -19,7 +19,7 @@ use Rattle.packets.proofs.Steps.{slot_start, last_start, left_start, made_start,
 use Rattle.parts.specs.declared.slot.Slot.{Slot}
 use Rattle.parts.specs.Slots.{slot_for}
 use Rattle.rows.specs.declared.flow_row.FlowRow.{FlowRow}
-use Rattle.rows.specs.Blank.{idle, no_row}
+use Rattle.rows.specs.Blank.{idle, no_flow, no_row}
 use Rattle.table.specs.declared.fault.LoadFault.TheVariants.{Misfit}
 use Rattle.table.specs.declared.header.Header.{Header}
 use Rattle.table.specs.declared.profile.Profile.{Profile}

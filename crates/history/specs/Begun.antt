@@ -1,31 +1,46 @@
 -- What a load leaves. Assumes nothing.
---   run_checks: the checks of a load in their order, on a run in the state given, over a medium with the limit given
---   first_checks: those of them that need no memory
+--   refusal_of: the first reason to refuse a load: an injection is owed, and then the first fault of the table
+--   run_refusal: that of a load on a run in the state given, over a medium with the limit given
+--   early_refusal: the first of those reasons that need no memory
+--   BuildsRun: an answer is the first reason to refuse, or a value that keeps what is asked of it
 --   Begun: a run that a table was just loaded into
 --   LoadBegins: the promise begins there, with no call yet and any ledger
-use Rattle.std.specs.Prelude.{◌≡◌, ℕ, Bool, true, false, List, [], ◌∷◌, map, length, None}
+use Rattle.std.specs.Prelude.{◌≡◌, ℕ, Bool, true, false, List, [], map, length, Some, None, Ok, Err, Option, Result, ◌≢◌}
 use Rattle.analysis.specs.declared.row.Row.{Row}
 use Rattle.analysis.specs.Answers.{Exactly}
 use Rattle.analysis.specs.Loading.{load_checks, open_checks, profile_of, timing_of}
 use Rattle.analysis.specs.Rows.{RowsFit}
+use Rattle.calls.specs.declared.load_refusal.LoadRefusal.{LoadRefusal}
+use Rattle.calls.specs.declared.load_refusal.LoadRefusal.TheVariants.{Owed, Fault}
 use Rattle.calls.specs.declared.record.Record.{Record}
 use Rattle.fabric.specs.Routes.{Route}
 use Rattle.parts.specs.Slots.{slot_for}
 use Rattle.rows.specs.Blank.{idle}
 use Rattle.table.specs.declared.fault.LoadFault.{LoadFault}
-use Rattle.table.specs.declared.fault.LoadFault.TheVariants.{Owed}
+use Rattle.table.specs.declared.fault.LoadFault.TheVariants.{NoMemory}
 use Rattle.table.specs.Checks.{first_fault}
 use Rattle.table.specs.File.{header_of, flows_of}
 use Rattle.history.specs.State.{State}
 use Rattle.history.specs.Since.{Since, Lists}
 use Rattle.history.specs.Promise.{RunPromise, LedgerPromise}
 
-abbrev pub run_checks : State → List ℕ → ℕ → (ℕ → ℕ → ℕ → Route) → ℕ → List (Bool × LoadFault)
-run_checks s bs nodes route most = (s.owed, Owed) ∷ load_checks bs nodes route most
+-- what is owed comes before all checks of the table
+abbrev pub refusal_of : Bool → Option LoadFault → Option LoadRefusal
+refusal_of true fault = Some Owed
+refusal_of false None = None
+refusal_of false (Some fault) = Some (Fault fault)
 
--- those of them that need no memory
-abbrev pub first_checks : State → List ℕ → ℕ → ℕ → List (Bool × LoadFault)
-first_checks s bs nodes most = (s.owed, Owed) ∷ open_checks (length bs) most nodes (header_of bs)
+abbrev pub run_refusal : State → List ℕ → ℕ → (ℕ → ℕ → ℕ → Route) → ℕ → Option LoadRefusal
+run_refusal s bs nodes route most = refusal_of s.owed (first_fault (load_checks bs nodes route most))
+
+-- the first of those that need no memory
+abbrev pub early_refusal : State → List ℕ → ℕ → ℕ → Option LoadRefusal
+early_refusal s bs nodes most = refusal_of s.owed (first_fault (open_checks (length bs) most nodes (header_of bs)))
+
+-- the first reason, unless there was no memory; or no reason, and a value as asked
+abbrev pub BuildsRun : {X : Type 0} → Option LoadRefusal → (X → Type 0) → Result X LoadRefusal → Type 0
+BuildsRun refusal P (Ok x) = (refusal ≡ None) × P x
+BuildsRun refusal P (Err e) = (e ≢ Fault NoMemory) → refusal ≡ Some e
 
 pub record Begun (bs : List ℕ) (route : ℕ → ℕ → ℕ → Route) (number : ℕ) (s : State) : Type 0 where
   pub number_is : s.number ≡ number

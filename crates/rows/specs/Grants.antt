@@ -4,7 +4,7 @@
 --   granting most gs r: the next flow is granted, where gs tells of the flows before it, on a medium with the limit given
 --   decided most gs rows: the rows after their flows' intervals, in turn
 --   levels_of most rows: the levels of these intervals
-use Rattle.std.specs.Prelude.{ℕ, zero, suc, Bool, true, false, not, ◌&&◌, ◌||◌, List, [], ◌∷◌, ◌++◌, map, length, take, nat_lt, slice_index_or}
+use Rattle.std.specs.Prelude.{ℕ, zero, suc, Bool, false, not, ◌&&◌, ◌||◌, List, [], ◌∷◌, ◌++◌, map, length, take, nat_lt, slice_index_or}
 use Rattle.analysis.specs.declared.above.Above.{Above}
 use Rattle.analysis.specs.Marks.{marked}
 use Rattle.medium.specs.declared.level.Level.{Level}

@@ -1,4 +1,6 @@
 pub mod Blank
+pub mod Small
+pub mod Filling
 pub mod Times
 pub mod Grants
 pub mod Releases

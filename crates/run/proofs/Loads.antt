@@ -1,17 +1,19 @@
 -- The checks of a load that need no memory are the first of them. Assumes nothing.
-use Rattle.std.proofs.Common.{◌≡◌, ℕ, Bool, true, false, cond, List, [], ◌∷◌, ◌++◌, length, IfOk, Some, None, Ok, Err, Result, sym, refl, ap, ◌∙◌, arith}
+use Rattle.std.proofs.Common.{◌≡◌, ℕ, Bool, true, false, cond, List, [], ◌∷◌, ◌++◌, length, IfOk, IsErrAnd, Some, None, Option, Ok, Err, Result, sym, refl, ap, ◌∙◌, subst, arith}
+use Rattle.std.proofs.lemmas.Result.{err_from_is_err_and}
 use Rattle.analysis.specs.Answers.{Exactly}
 use Rattle.analysis.specs.Loading.{load_checks, open_checks, flow_checks, misfit_checks, timing_of}
-use Rattle.analysis.specs.Rows.{Builds}
+use Rattle.calls.specs.declared.load_refusal.LoadRefusal.{LoadRefusal}
+use Rattle.calls.specs.declared.load_refusal.LoadRefusal.TheVariants.{Owed, Fault}
 use Rattle.calls.specs.declared.record.Record.{Record}
 use Rattle.fabric.specs.Routes.{Route}
 use Rattle.table.specs.declared.fault.LoadFault.{LoadFault}
-use Rattle.table.specs.declared.fault.LoadFault.TheVariants.{Owed}
+use Rattle.table.specs.declared.fault.LoadFault.TheVariants.{NoMemory}
 use Rattle.table.specs.Checks.{first_fault, header_checks, section_checks}
 use Rattle.table.specs.File.{header_of}
 use Rattle.table.proofs.Firsts.{both_passed, first_passed}
 use Rattle.history.specs.State.{State}
-use Rattle.history.specs.Begun.{first_checks, run_checks, Begun, PromiseBegins}
+use Rattle.history.specs.Begun.{refusal_of, run_refusal, early_refusal, BuildsRun, Begun, PromiseBegins}
 use Rattle.history.proofs.Beginning.{load_begins}
 
 pub opened_first : (bs : List ℕ) (nodes most : ℕ) (route : ℕ → ℕ → ℕ → Route) → first_fault (load_checks bs nodes route most) ≡ None → first_fault (open_checks (length bs) most nodes (header_of bs)) ≡ None
@@ -26,20 +28,33 @@ opened_first bs nodes most route e =
     ∙ c.0
 
 -- nothing was owed, and no check applied
-pub none_first : (s : State) (bs : List ℕ) (nodes most : ℕ) (route : ℕ → ℕ → ℕ → Route) → s.owed ≡ false → first_fault (load_checks bs nodes route most) ≡ None → first_fault (first_checks s bs nodes most) ≡ None
+pub none_first : (s : State) (bs : List ℕ) (nodes most : ℕ) (route : ℕ → ℕ → ℕ → Route) → s.owed ≡ false → first_fault (load_checks bs nodes route most) ≡ None → early_refusal s bs nodes most ≡ None
 none_first s bs nodes most route idle e =
-    ap (λ t. cond t (Some Owed) (first_fault (open_checks (length bs) most nodes (header_of bs)))) idle ∙ opened_first bs nodes most route e
+    ap (λ t. refusal_of t (first_fault (open_checks (length bs) most nodes (header_of bs)))) idle ∙ ap (refusal_of false) (opened_first bs nodes most route e)
 
 -- the checks of the table itself
-passed_on : (owed : Bool) (rest : List (Bool × LoadFault)) → first_fault ((owed, Owed) ∷ rest) ≡ None → first_fault rest ≡ None
-passed_on true rest e = let z : ◌≡◌ {A = ℕ} 0 1 = cc in absurd (omega arith)
-passed_on false rest e = e
+passed_on : (owed : Bool) (fault : Option LoadFault) → refusal_of owed fault ≡ None → fault ≡ None
+passed_on true fault e = let z : ◌≡◌ {A = ℕ} 0 1 = cc in absurd (omega arith)
+passed_on false None e = refl
+passed_on false (Some f) e = let z : ◌≡◌ {A = ℕ} 0 1 = cc in absurd (omega arith)
+
+-- nothing was owed: the table's fault is the load's
+pub not_owed : (owed : Bool) (fault : Option LoadFault) (e : LoadFault) → owed ≡ false → fault ≡ Some e → refusal_of owed fault ≡ Some (Fault e)
+not_owed owed fault e idle is = ap (λ t. refusal_of t fault) idle ∙ ap (refusal_of false) is
+
+-- a refusal that is handed up
+pub handed_up : {X : Type 0} (o : Option LoadRefusal) (P : X → Type 0) (r : Result X LoadRefusal) (e : LoadRefusal) → IsErrAnd r (λ y. y ≡ e) → ((e ≡ Fault NoMemory → ⊥) → o ≡ Some e) → BuildsRun o P r
+handed_up o P r e by first = let q = err_from_is_err_and r by in subst (BuildsRun o P) (sym (q.1 ∙ ap Err q.2)) first
+
+-- no memory, whatever the checks say
+pub handed_nothing : {X : Type 0} (o : Option LoadRefusal) (P : X → Type 0) (r : Result X LoadRefusal) → IsErrAnd r (λ y. y ≡ Fault NoMemory) → BuildsRun o P r
+handed_nothing o P r by = handed_up o P r (Fault NoMemory) by (λ other. absurd (other refl))
 
 -- where the load was accepted, the promise begins
 pub begins_from :
-    (most number nodes : ℕ) (bs : List ℕ) (route : ℕ → ℕ → ℕ → Route) (s s' : State) (r : Result (Unit {0}) LoadFault) →
-    Builds (first_fault (run_checks s bs nodes route most)) (λ _. Begun bs route number s') r → IfOk r (λ _. Exactly (timing_of bs route)) →
+    (most number nodes : ℕ) (bs : List ℕ) (route : ℕ → ℕ → ℕ → Route) (s s' : State) (r : Result (Unit {0}) LoadRefusal) →
+    BuildsRun (run_refusal s bs nodes route most) (λ _. Begun bs route number s') r → IfOk r (λ _. Exactly (timing_of bs route)) →
     IfOk r (λ _. (k : List Record) → PromiseBegins most bs route s' k)
 begins_from most number nodes bs route s s' (Ok done) built exact = λ k.
-    load_begins most number nodes bs route s' k (passed_on s.owed (load_checks bs nodes route most) built.0) exact built.1
+    load_begins most number nodes bs route s' k (passed_on s.owed (first_fault (load_checks bs nodes route most)) built.0) exact built.1
 begins_from most number nodes bs route s s' (Err e) built exact = tt

@@ -3,7 +3,7 @@
 --   interval_refused, interval_ran: a flow whose interval is not opened, or is, and whether it is then granted
 --   level_count: the intervals that are open before flow k + 1
 --   turn_none, turn_more, turn_all: a loop over all flows
-use Rattle.std.proofs.Common.{◌≡◌, ℕ, ◌+◌, ◌<◌, ◌≤◌, min, Bool, true, false, cond, not, ◌&&◌, ◌||◌, ltb, List, [], ◌∷◌, ◌++◌, map, length, get_or, take, drop, set, is_err, Ok, Err, Result, sym, refl, ap, ◌∙◌, ⊎_elim, append_assoc, append-nil, add-one, arith}
+use Rattle.std.proofs.Common.{◌≡◌, ℕ, ◌+◌, ◌<◌, ◌≤◌, min, Bool, true, false, cond, not, ◌&&◌, ◌||◌, ltb, List, [], ◌∷◌, ◌++◌, map, length, get_or, take, drop, set, is_err, Ok, Err, Result, sym, refl, ap, ◌∙◌, subst, ⊎_elim, append_assoc, append-nil, add-one, arith}
 use Rattle.std.proofs.lemmas.List.{get_or-map, get_or_read, length-map, length_push, length-set, length-take, length-take-le, take_all, take-append-le, take_more_set, take-map, drop_all, drop_more, drop-set-lt, map_push}
 use Rattle.std.proofs.lemmas.Bool.{cases_lt, lt-ltb, le-ltb, ltb-true, ltb-false, not-true, not-false}
 use Rattle.analysis.specs.declared.above.Above.{Above}
@@ -17,19 +17,24 @@ use Rattle.interval.specs.Intervals.{pulled_if, pressed, quiet_at}
 use Rattle.interval.proofs.OneInterval.{press_more, contested}
 use Rattle.rows.specs.declared.flow_row.FlowRow.{FlowRow}
 use Rattle.rows.specs.Blank.{no_row}
+use Rattle.rows.specs.Small.{IsSmall, Small}
 use Rattle.rows.proofs.Decided.{granting_in, granting_out}
 use Rattle.rows.specs.Grants.{wants, blocked, granting, mark, decided, grants_of, levels_of}
 
 abbrev granted : FlowRow → Bool
 granted r = r.progress.granted
 
+-- the node of a small row
+pub near_at : (rs : List FlowRow) (k : ℕ) (row : FlowRow) → Small rs → k < length rs → row ≡ get_or rs k row → row.flow.record.source < 256
+near_at rs k row small lt here = (subst (λ (r : FlowRow). IsSmall r.flow) (sym here) (small k row lt)).near
+
 -- the flow above stands in row h
-pub press_next : (ls now new : List Level) (a : Above) (rs : List FlowRow) (h node : ℕ) (row : FlowRow) (pulls : Bool) → h < length rs → row ≡ get_or rs h row → node ≡ row.flow.record.source
+pub press_next : (ls now new : List Level) (a : Above) (rs : List FlowRow) (h node : ℕ) (row : FlowRow) (pulls : Bool) → Small rs → h < length rs → row ≡ get_or rs h row → node ≡ row.flow.record.source
     → pulls ≡ (marked a (h + 1) && row.progress.granted) → now ≡ pressed ls (blocked a (grants_of rs) h) → new ≡ pulled_if now node pulls → new ≡ pressed ls (blocked a (grants_of rs) (h + 1))
 unfolding blocked
-press_next ls now new a rs h node row pulls lt here from told before after =
+press_next ls now new a rs h node row pulls small lt here from told before after =
     let gs = grants_of rs in
-    press_more ls now new (blocked a gs h) pulls node (omega (arith, row.flow.near)) before after
+    press_more ls now new (blocked a gs h) pulls node (omega (arith, near_at rs h row small lt here)) before after
     ∙ ap (λ p. pressed ls (blocked a gs h || p)) told
     ∙ ap (λ g. pressed ls (blocked a gs h || (marked a (h + 1) && g))) (ap granted here ∙ sym (get_or-map granted rs h row false lt))
     ∙ ap (λ n. pressed ls (blocked a gs h || (marked a n && get_or gs h false))) (add-one h)
@@ -57,15 +62,15 @@ twice_not : (b : Bool) → not (not b) ≡ b
 twice_not true = refl
 twice_not false = refl
 
-pub interval_ran : (m k : ℕ) (rs : List FlowRow) (ls start begun end : List Level) (r : Result (Unit {0}) MediumFault) (row : FlowRow) (node : ℕ) (own quiet : Bool) → k < length rs → row ≡ get_or rs k row
+pub interval_ran : (m k : ℕ) (rs : List FlowRow) (ls start begun end : List Level) (r : Result (Unit {0}) MediumFault) (row : FlowRow) (node : ℕ) (own quiet : Bool) → Small rs → k < length rs → row ≡ get_or rs k row
     → length ls ≡ min k m → r ≡ may_open m (length ls) → false ≡ is_err r → start ≡ opened m ls → node ≡ row.flow.record.source → own ≡ not (wants row) → begun ≡ pulled_if start node own
     → end ≡ pressed begun (blocked row.flow.above (grants_of rs) k) → quiet ≡ quiet_at (read_at end k)
     → (quiet ≡ granting m (take k (grants_of rs)) (get_or rs k no_row)) × (end ≡ cond (ltb k m) (ls ++ (level_of (not quiet) ∷ [])) ls)
-interval_ran m k rs ls start begun end r row node own quiet lt here before answer accepted opening from rests first others read =
+interval_ran m k rs ls start begun end r row node own quiet small lt here before answer accepted opening from rests first others read =
     let room : ltb (length ls) m ≡ true = not-false (ltb (length ls) m) (sym (refused (ltb (length ls) m) r answer) ∙ sym accepted) in
     let under : k < m = omega (arith, ltb-true (length ls) m room) in
     let rest = blocked row.flow.above (grants_of rs) k in
-    let ran = contested m ls start begun end own rest node k (omega arith) under (omega (arith, row.flow.near)) opening first others in
+    let ran = contested m ls start begun end own rest node k (omega arith) under (omega (arith, near_at rs k row small lt here)) opening first others in
     let told : quiet ≡ not (own || rest) = read ∙ ran.1 in (
       told
           ∙ ap (λ o. not (o || rest)) rests

@@ -5,6 +5,7 @@ ghost use Rattle.medium.specs.Levels.{level_of};
 ghost use Rattle.interval.specs.Intervals.{pressed};
 ghost use Rattle.rows.specs.Blank.{no_row};
 ghost use Rattle.rows.specs.Grants.{wants, blocked, granting, decided, grants_of, levels_of};
+ghost use Rattle.rows.specs.Small.{Small};
 
 use analysis::above::Above;
 use interval::steps::{is_quiet, pull_if};
@@ -28,7 +29,8 @@ fn denies(above: &Above, flow: usize, row: &FlowRow) -> bool
 
 // The source of each of the first k flows pulls the last interval or keeps still.
 fn press<M: Medium>(medium: &mut M, above: &Above, rows: &[FlowRow], k: usize)
-    requires { k ≤ length rows.now }
+    requires within { k ≤ length rows.now }
+    requires small { Small rows.now }
     ensures { M.levels medium.new ≡ pressed (M.levels medium.old) (blocked above.now (grants_of rows.now) k) }
 {
     for h in 0..k {
@@ -42,6 +44,7 @@ fn press<M: Medium>(medium: &mut M, above: &Above, rows: &[FlowRow], k: usize)
 fn run_interval<M: Medium>(medium: &mut M, rows: &[FlowRow], k: usize) -> bool
     requires within { k < length rows.now }
     requires before { length (M.levels medium.old) ≡ min k M.most }
+    requires small { Small rows.now }
     ensures answer { result ≡ granting M.most (take k (grants_of rows.now)) (slice_index_or rows.now k no_row) }
     ensures after { M.levels medium.new ≡ (if nat_lt k M.most then M.levels medium.old ++ level_of (not result) ∷ [] else M.levels medium.old) }
 {

@@ -1,5 +1,5 @@
 // What a clock tells of a release and of an arrival.
-ghost use Rattle.std.specs.Prelude.{◌≡◌, ◌+◌, ◌*◌, ◌^◌, ◌≤◌};
+ghost use Rattle.std.specs.Prelude.{◌≡◌, ◌+◌, ◌*◌, ◌^◌, ◌<◌, ◌≤◌, None, IfSome};
 ghost use Rattle.rows.specs.Times.{late, ahead, slot_end};
 
 use super::Clock;
@@ -7,15 +7,19 @@ use analysis::loaded::Loaded;
 use analysis::row::Row;
 
 impl Clock {
-    // The clock of a table that was just loaded, at slot 0.
-    pub fn start(loaded: &Loaded) -> Clock
-        ensures slot { result.slot ≡ 0 }
-        ensures times { result.times ≡ loaded.now.slot }
+    // The clock of a table that was just loaded, at slot 0, unless a slot has 2^30 cycles or more.
+    pub fn start(loaded: &Loaded) -> Option<Clock>
+        ensures slot { IfSome result (λ clock. clock.slot ≡ 0) }
+        ensures times { IfSome result (λ clock. clock.times ≡ loaded.now.slot) }
+        ensures none { result ≡ None → 2 ^ 30 ≤ loaded.now.slot.length }
     {
-        Clock {
+        if loaded.slot.length >= 1 << 30 {
+            return None;
+        }
+        Some(Clock {
             slot: 0,
             times: loaded.slot,
-        }
+        })
     }
 
     // Where the interval of a flow ends in the slot.
@@ -50,7 +54,8 @@ impl Clock {
     }
 
     // When a packet of a flow arrives that has its last grant in the slot.
-    pub fn arrival(&self, row: &Row) -> u64
+    pub(crate) fn arrival(&self, row: &Row) -> u64
+        requires { row.now.tail < 2 ^ 60 }
         ensures { result ≡ slot_end self.now.times self.now.slot + row.now.tail }
     {
         self.slots_over() * u64::from(self.times.length) + row.tail

@@ -5,6 +5,7 @@ ghost use Rattle.rows.specs.Blank.{no_row};
 ghost use Rattle.rows.specs.Grants.{mark};
 ghost use Rattle.rows.specs.Releases.{begun};
 ghost use Rattle.rows.specs.Serving.{served, noted, wrote, one};
+ghost use Rattle.rows.specs.Small.{IsSmall};
 ghost use Rattle.rows.specs.Times.{slot_end};
 
 use super::Rows;
@@ -56,6 +57,7 @@ impl Rows {
 
 // Writes a row's own counts into the record of its packet.
 fn note(row: &FlowRow, clock: &Clock, ledger: &mut [Record])
+    requires { IsSmall row.now.flow }
     ensures { ledger.new ≡ slice_set ledger.old row.now.progress.place (noted (slot_end clock.now.times clock.now.slot) row.now (slice_index_or ledger.old row.now.progress.place no_record)) }
 {
     let place = row.progress.place;

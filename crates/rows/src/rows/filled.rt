@@ -1,6 +1,7 @@
 // Filling the rows, and reading them.
-ghost use Rattle.std.specs.Prelude.{◌≡◌, [], map, length, IfOk};
+ghost use Rattle.std.specs.Prelude.{◌≡◌, ◌^◌, ◌&&◌, [], length, IfOk, nat_lt};
 ghost use Rattle.rows.specs.Blank.{idle};
+ghost use Rattle.rows.specs.Filling.{Fills};
 
 use super::Rows;
 use crate::flow_row::{FlowRow, Progress};
@@ -24,6 +25,13 @@ fn idle(flow: Row) -> FlowRow
     }
 }
 
+// Whether a run can reckon with a flow's figures.
+fn is_small(flow: &Row) -> bool
+    ensures { result ≡ (nat_lt flow.now.«record».source 256 && nat_lt flow.now.tail (2 ^ 60)) }
+{
+    flow.record.source < 256 && flow.tail < 1 << 60
+}
+
 impl Rows {
     // No flows.
     pub fn new(heap: Global) -> Rows
@@ -34,15 +42,18 @@ impl Rows {
         }
     }
 
-    // The flows of a table that was just loaded.
-    pub fn fill(heap: Global, flows: &[Row]) -> Result<Rows, AllocError>
-        ensures { IfOk result (λ rows. rows.items.items ≡ map idle flows.now) }
+    // The flows of a table that was just loaded, unless the figures of one of them are not small.
+    pub fn fill(heap: Global, flows: &[Row]) -> Result<Option<Rows>, AllocError>
+        ensures { IfOk result (Fills flows.now) }
     {
         let mut items = Vec::new(heap);
         for flow in flows {
+            if !is_small(flow) {
+                return Ok(None);
+            }
             items.push(idle(*flow))?;
         }
-        Ok(Rows { items })
+        Ok(Some(Rows { items }))
     }
 
     // How many flows there are.

@@ -2,21 +2,20 @@
 ghost use Rattle.std.specs.Prelude.{◌≡◌, false, List, is_ok, None, Err, OnOk};
 ghost use Rattle.analysis.specs.Answers.{Exactly};
 ghost use Rattle.analysis.specs.Loading.{timing_of};
-ghost use Rattle.analysis.specs.Rows.{Builds};
+ghost use Rattle.calls.specs.declared.load_refusal.LoadRefusal.TheVariants.{Fault};
 ghost use Rattle.calls.specs.declared.record.Record.{Record as Entry};
 ghost use Rattle.table.specs.declared.fault.LoadFault.TheVariants.{NoMemory};
-ghost use Rattle.table.specs.Checks.{first_fault};
-ghost use Rattle.history.specs.Begun.{run_checks, first_checks, Begun, PromiseBegins};
+ghost use Rattle.history.specs.Begun.{run_refusal, early_refusal, BuildsRun, Begun, PromiseBegins};
 ghost use Rattle.run.specs.Seen.{state_of};
 
 use super::Run;
 use analysis::load::load as load_table;
+use calls::load_refusal::LoadRefusal;
 use fabric::fabric::Fabric;
 use medium::medium::Medium;
 use rows::clock::Clock;
 use rows::rows::Rows;
 use std::alloc::Global;
-use table::fault::LoadFault;
 
 impl<M: Medium> Run<M> {
     fn load_step<F: Fabric>(
@@ -25,20 +24,25 @@ impl<M: Medium> Run<M> {
         file: &[u8],
         fabric: &F,
         number: u32,
-    ) -> Result<(), LoadFault>
-        ensures answer { Builds (first_fault (run_checks (state_of M.levels self.old) file.now (F.nodes fabric.now) (F.route fabric.now) M.most)) (λ _. Begun file.now (F.route fabric.now) number (state_of M.levels self.new)) result }
+    ) -> Result<(), LoadRefusal>
+        ensures answer { BuildsRun (run_refusal (state_of M.levels self.old) file.now (F.nodes fabric.now) (F.route fabric.now) M.most) (λ _. Begun file.now (F.route fabric.now) number (state_of M.levels self.new)) result }
         ensures same { is_ok result ≡ false → state_of M.levels self.new ≡ state_of M.levels self.old }
-        ensures memory { result ≡ Err NoMemory → first_fault (first_checks (state_of M.levels self.old) file.now (F.nodes fabric.now) M.most) ≡ None }
+        ensures memory { result ≡ Err (Fault NoMemory) → early_refusal (state_of M.levels self.old) file.now (F.nodes fabric.now) M.most ≡ None }
         ensures exact { OnOk result (Exactly (timing_of file.now (F.route fabric.now))) }
     {
         if self.owed {
-            return Err(LoadFault::Owed);
+            return Err(LoadRefusal::Owed);
         }
         let loaded = load_table(heap, file, fabric, self.medium.limit())?;
-        let rows = Rows::fill(heap, loaded.rows.as_slice())?;
+        let Some(rows) = Rows::fill(heap, loaded.rows.as_slice())? else {
+            unreachable()
+        };
+        let Some(clock) = Clock::start(&loaded) else {
+            unreachable()
+        };
         self.medium.clear();
         self.rows = rows;
-        self.clock = Clock::start(&loaded);
+        self.clock = clock;
         self.number = number;
         self.count = 0;
         self.ended = false;
@@ -53,10 +57,10 @@ impl<M: Medium> Run<M> {
         file: &[u8],
         fabric: &F,
         number: u32,
-    ) -> Result<(), LoadFault>
-        ensures answer { Builds (first_fault (run_checks (state_of M.levels self.old) file.now (F.nodes fabric.now) (F.route fabric.now) M.most)) (λ _. Begun file.now (F.route fabric.now) number (state_of M.levels self.new)) result }
+    ) -> Result<(), LoadRefusal>
+        ensures answer { BuildsRun (run_refusal (state_of M.levels self.old) file.now (F.nodes fabric.now) (F.route fabric.now) M.most) (λ _. Begun file.now (F.route fabric.now) number (state_of M.levels self.new)) result }
         ensures same { is_ok result ≡ false → state_of M.levels self.new ≡ state_of M.levels self.old }
-        ensures memory { result ≡ Err NoMemory → first_fault (first_checks (state_of M.levels self.old) file.now (F.nodes fabric.now) M.most) ≡ None }
+        ensures memory { result ≡ Err (Fault NoMemory) → early_refusal (state_of M.levels self.old) file.now (F.nodes fabric.now) M.most ≡ None }
         ensures exact { OnOk result (Exactly (timing_of file.now (F.route fabric.now))) }
         ensures promise { OnOk result ((k : List Entry) → PromiseBegins M.most file.now (F.route fabric.now) (state_of M.levels self.new) k) }
     {

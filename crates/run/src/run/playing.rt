@@ -1,10 +1,8 @@
 // Playing a whole list of calls.
 ghost use Rattle.std.specs.Prelude.{◌≡◌, ◌≤◌, false, List, [], map, reverse, length, is_ok, vec_capacity};
-ghost use Rattle.analysis.specs.Rows.{Builds};
 ghost use Rattle.calls.specs.declared.record.Record.{Record as Entry};
 ghost use Rattle.calls.specs.Events.{call_of};
-ghost use Rattle.table.specs.Checks.{first_fault};
-ghost use Rattle.history.specs.Begun.{run_checks};
+ghost use Rattle.history.specs.Begun.{run_refusal, BuildsRun};
 ghost use Rattle.history.specs.Promise.{Upholds};
 ghost use Rattle.history.specs.Played.{StepsTo, Ran, Played};
 ghost use Rattle.history.specs.Since.{Since, Lists};
@@ -14,12 +12,12 @@ ghost use Rattle.run.specs.Seen.{state_of};
 use super::Run;
 use crate::slip::Slip;
 use calls::event::{Call, Event};
+use calls::load_refusal::LoadRefusal;
 use calls::record::Record;
 use calls::slip_name::SlipName;
 use fabric::fabric::Fabric;
 use medium::medium::Medium;
 use std::alloc::Global;
-use table::fault::LoadFault;
 
 impl<M: Medium> Run<M> {
     // Arbitrates, and keeps of the slip what it names.
@@ -129,8 +127,8 @@ impl<M: Medium> Run<M> {
         number: u32,
         calls: &[Call],
         ledger: &mut [Record],
-    ) -> Result<Vec<Event>, LoadFault>
-        ensures answer { Builds (first_fault (run_checks (state_of M.levels self.old) file.now (F.nodes fabric.now) (F.route fabric.now) M.most)) (λ events. Played M.most file.now (F.route fabric.now) number calls.now events.items ledger.old (state_of M.levels self.new) ledger.new) result }
+    ) -> Result<Vec<Event>, LoadRefusal>
+        ensures answer { BuildsRun (run_refusal (state_of M.levels self.old) file.now (F.nodes fabric.now) (F.route fabric.now) M.most) (λ events. Played M.most file.now (F.route fabric.now) number calls.now events.items ledger.old (state_of M.levels self.new) ledger.new) result }
         ensures same { is_ok result ≡ false → (state_of M.levels self.new ≡ state_of M.levels self.old) × (ledger.new ≡ ledger.old) }
     {
         let mut events = Vec::with_capacity(heap, calls.len())?;

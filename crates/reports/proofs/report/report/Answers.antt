@@ -17,7 +17,7 @@ returns c =
     let ledger = c.args.ledger.now in
     let k = take count ledger in
     let is : c.tell.result ≡ told rows k = c.tell.ensures
-    ∙ ap (λ (flows : List FlowRow). told flows (take (count - 0) ledger)) c.as-slice.ensures
+    ∙ ap (λ (flows : List FlowRow). told flows (take (count - 0) ledger)) c.as_slice.ensures
     ∙ ap (λ (n : ℕ). told rows (take n ledger)) (sub-zero count) in
     record {
       answer =

@@ -25,16 +25,16 @@ given rows i v row test figures tightest =
 
 pub returns : goal.returns
 returns c =
-    let flows = c.as-slice-flows.result.now in
+    let flows = c.as_slice-flows.result.now in
     let rows = vec_items c.args.rows.now.items in
-    let same = c.as-slice-flows.ensures in
+    let same = c.as_slice-flows.ensures in
     let here = c.if-flow-flows.false in
     let test : (ltb c.args.flow 1 || ltb (length flows) c.args.flow) ≡ false = grind (arith, nat_tests) in
-    let v : Verdict = record { figures = c.figures-of.result; tightest = c.tightest-flow.result } in
+    let v : Verdict = record { figures = c.figures_of.result; tightest = c.tightest_flow.result } in
     record {
       answer =
-          given flows c.args.flow v c.index-flows-flow.result test c.figures-of.ensures c.tightest-flow.ensures
+          given flows c.args.flow v c.index-flows-flow.result test c.figures_of.ensures c.tightest_flow.ensures
           ∙ ap (λ (xs : List FlowRow). verdict_of xs c.args.flow) same;
       tightest =
-          subst (TightestFlow rows) (sym (c.tightest-flow.ensures ∙ ap tightest_flow same)) (flow_law rows);
+          subst (TightestFlow rows) (sym (c.tightest_flow.ensures ∙ ap tightest_flow same)) (flow_law rows);
     }

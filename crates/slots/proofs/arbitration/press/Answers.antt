@@ -9,9 +9,9 @@ loop-h-init g c = refl
 
 pub loop-h-preserved : goal.loop-h-preserved
 loop-h-preserved g c =
-    press_next (g.M.Medium.levels c.args.medium.now) _ _ c.args.above.now c.args.rows.now c.loop-h.h c.from.result c.index-rows-h.result _ (omega arith)
+    press_next (g.M.Medium.levels c.args.medium.now) _ _ c.args.above.now c.args.rows.now c.loop-h.h c.from.result c.index-rows-h.result _ c.requires.small (omega arith)
     c.index-rows-h.is
     c.from.ensures
     c.denies-pulls.ensures
     c.loop-h.invariant
-    c.pull-if.ensures.after
+    c.pull_if.ensures.after

@@ -1,6 +1,5 @@
-use Rattle.std.proofs.Common.{◌≡◌, ◌≤◌, length, get_or, vec_items, vec_len, sym, refl, ap, ◌∙◌, arith}
+use Rattle.std.proofs.Common.{length, get_or, vec_items, sym, ap, arith}
 use Rattle.std.proofs.lemmas.List.{length-set, get_or_past}
-use Rattle.calls.specs.declared.record.Record.{Record}
 use Rattle.rows.specs.Blank.{no_row}
 use Rattle.rows.specs.Serving.{served, one, wrote}
 use Rattle.rows.specs.Times.{slot_end}
