@@ -1,22 +1,20 @@
 -- An arbitration grants those whom the calls say. Assumes nothing.
-use Rattle.std.proofs.Common.{◌≡◌, ℕ, zero, suc, ◌+◌, ◌-◌, ◌<◌, ◌≤◌, Bool, true, false, cond, not, ◌&&◌, ◌||◌, eqb, ltb, ◌⊎◌, List, [], ◌∷◌, map, length, get_or, Ok, Err, sym, refl, ap, ◌∙◌, subst, ap₂, inl, inr, ⊎_elim, arith, take_all}
+use Rattle.std.proofs.Common.{◌≡◌, ℕ, zero, suc, ◌+◌, ◌-◌, ◌<◌, ◌≤◌, Bool, true, false, not, ◌&&◌, ◌||◌, eqb, ltb, List, [], ◌∷◌, map, length, get_or, Ok, sym, refl, ap, ◌∙◌, subst, ap₂, ⊎_elim, arith, take_all}
 use Rattle.std.proofs.lemmas.List.FromFn.{fill_by_all}
 use Rattle.std.proofs.lemmas.List.{get_or-map, length-map}
-use Rattle.std.proofs.lemmas.Bool.{both_ways, cases_Bool, cases_lt, and_left, eqb-false}
+use Rattle.std.proofs.lemmas.Bool.{cases_Bool, and_left, eqb-false}
 use Rattle.analysis.specs.declared.above.Above.{Above}
 use Rattle.analysis.specs.Marks.{marked}
 use Rattle.analysis.specs.Standing.{Stands}
 use Rattle.calls.specs.declared.event.Event.TheVariants.{Arbitrated}
 use Rattle.calls.specs.declared.slip_name.SlipName.{SlipName}
-use Rattle.medium.specs.declared.level.Level.{Level}
 use Rattle.medium.specs.declared.level.Level.TheVariants.{Recessive}
 use Rattle.medium.specs.Levels.{level_of}
 use Rattle.fabric.specs.Paths.{links_in, shares}
-use Rattle.packets.specs.Calls.{ledger, granted, wants, left_of, place_of, no_packet}
+use Rattle.packets.specs.Calls.{ledger, granted, wants}
 use Rattle.packets.proofs.Arbiter.{granted_is}
 use Rattle.packets.proofs.Rows.{wanting}
 use Rattle.rows.specs.declared.flow_row.FlowRow.{FlowRow}
-use Rattle.rows.specs.declared.flow_row.Progress.{Progress}
 use Rattle.analysis.specs.declared.row.Row.{Row}
 use Rattle.rows.specs.Blank.{no_row}
 use Rattle.rows.specs.Grants.{blocked, decided, grants_of, levels_of, mark}
@@ -24,9 +22,9 @@ use Rattle.rows.specs.Grants as rows
 use Rattle.rows.proofs.Decided.{decided_length, decided_row, decided_granted, grant_at}
 use Rattle.timing.specs.Counts.{some_to}
 use Rattle.timing.specs.Model.{Table, Flow}
-use Rattle.history.specs.State.{State, row_of, route_of}
+use Rattle.history.specs.State.{State, row_of}
 use Rattle.history.specs.Steps.{arbitrated}
-use Rattle.history.specs.Counted.{History, accepted, wanted_in, granted_in, levels_in}
+use Rattle.history.specs.Counted.{History, accepted, levels_in}
 use Rattle.history.specs.Since.{Since, Holds, Follows}
 use Rattle.history.proofs.Carried.{no_release}
 use Rattle.history.proofs.Numbers.{less_from}

@@ -1,17 +1,16 @@
 -- A run that a table was just loaded into stands for the table. Assumes nothing.
-use Rattle.std.proofs.Common.{◌≡◌, ℕ, ◌+◌, ◌-◌, ◌*◌, ◌<◌, ◌≤◌, Bool, true, false, cond, not, ◌&&◌, ◌||◌, eqb, ltb, leb, List, [], ◌∷◌, ◌++◌, map, length, get_or, Some, None, sym, refl, ap, ◌∙◌, subst, ap₂, arith}
+use Rattle.std.proofs.Common.{◌≡◌, ℕ, ◌+◌, ◌-◌, ◌*◌, ◌≤◌, Bool, true, false, cond, not, ◌&&◌, ◌||◌, eqb, ltb, List, [], ◌++◌, length, get_or, Some, None, sym, refl, ap, ◌∙◌, subst, ap₂, arith}
 use Rattle.std.proofs.lemmas.List.{get_or-map, length-map}
-use Rattle.std.proofs.lemmas.Bool.{both_ways, cases_Bool, le-leb, ltb-false, or_parts}
-use Rattle.analysis.specs.declared.row.Row.{Row}
+use Rattle.std.proofs.lemmas.Bool.{both_ways, le-leb, ltb-false, or_parts}
 use Rattle.analysis.specs.Answers.{Exactly}
 use Rattle.analysis.specs.Loading.{load_checks, flow_checks, misfit_checks, profile_of, timing_of}
-use Rattle.analysis.specs.Rows.{RowsFit, RowFits}
+use Rattle.analysis.specs.Rows.{RowFits}
 use Rattle.analysis.specs.Standing.{InSlot, Stands}
 use Rattle.analysis.specs.Tables.{table_of, path_of}
 use Rattle.analysis.proofs.Loads.{in_slot}
 use Rattle.analysis.proofs.Opening.{flow_count}
 use Rattle.calls.specs.declared.record.Record.{Record}
-use Rattle.fabric.specs.Paths.{links_in, shares}
+use Rattle.fabric.specs.Paths.{shares}
 use Rattle.fabric.specs.Routes.{Route}
 use Rattle.packets.specs.Calls.{granted}
 use Rattle.packets.proofs.Arbiter.{granted_is}
@@ -21,7 +20,6 @@ use Rattle.parts.specs.Slots.{slot_for}
 use Rattle.rows.specs.declared.flow_row.FlowRow.{FlowRow}
 use Rattle.rows.specs.Blank.{idle, no_flow, no_row}
 use Rattle.table.specs.declared.fault.LoadFault.TheVariants.{Misfit}
-use Rattle.table.specs.declared.header.Header.{Header}
 use Rattle.table.specs.declared.profile.Profile.{Profile}
 use Rattle.table.specs.declared.records.FlowRecord.{FlowRecord}
 use Rattle.table.specs.Checks.{first_fault, header_checks, section_checks}
@@ -30,7 +28,7 @@ use Rattle.table.proofs.Firsts.{both_passed}
 use Rattle.timing.specs.Model.{Table, Flow}
 use Rattle.history.specs.State.{State, row_of, route_of}
 use Rattle.history.specs.Counted.{wanted_in}
-use Rattle.history.specs.Since.{Since, Lists, Holds, Follows}
+use Rattle.history.specs.Since.{Since, Lists, Follows}
 use Rattle.history.specs.Begun.{Begun, LoadBegins}
 use Rattle.history.proofs.Promised.{run_promise, ledger_promise}
 

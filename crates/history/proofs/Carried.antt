@@ -1,5 +1,5 @@
 -- Calls that change no row: refused ones, the end of a run, reports and verdicts. Assumes nothing.
-use Rattle.std.proofs.Common.{◌≡◌, ℕ, ◌+◌, ◌<◌, ◌≤◌, Bool, true, false, cond, not, ◌&&◌, List, [], ◌∷◌, length, get_or, None, Ok, Err, Result, sym, refl, ap, ◌∙◌, subst, ap₂, arith}
+use Rattle.std.proofs.Common.{◌≡◌, ℕ, ◌+◌, ◌<◌, Bool, false, cond, not, List, [], ◌∷◌, get_or, None, Ok, Err, Result, sym, refl, ap, ◌∙◌, subst, ap₂, arith}
 use mathlib.Core.Path.{fun_ext}
 use Rattle.std.proofs.lemmas.Bool.{both_ways}
 use Rattle.calls.specs.declared.event.Event.{Event}
@@ -10,17 +10,15 @@ use Rattle.calls.specs.declared.refusal.Refusal.TheVariants.{Busy}
 use Rattle.calls.specs.declared.slip_name.SlipName.{SlipName}
 use Rattle.calls.specs.declared.report.Report.{Report}
 use Rattle.calls.specs.declared.report.Verdict.{Verdict}
-use Rattle.calls.specs.Events.{no_record}
-use Rattle.medium.specs.declared.level.Level.{Level}
 use Rattle.medium.specs.Levels.{levels_of}
-use Rattle.packets.specs.Calls.{Call, Accepted, no_packet, ledger, granted, wants, slot_of, last_of, left_of, made_of, place_of}
+use Rattle.packets.specs.Calls.{Accepted, no_packet, ledger, granted, wants, slot_of, last_of, left_of, made_of, place_of}
 use Rattle.packets.proofs.Arbiter.{granted_same}
-use Rattle.timing.specs.Model.{Table, Flow}
+use Rattle.timing.specs.Model.{Table}
 use Rattle.timing.specs.Figures.{bound_of}
-use Rattle.history.specs.State.{State, row_of, route_of}
+use Rattle.history.specs.State.{State, row_of}
 use Rattle.history.specs.Steps.{abandoned}
 use Rattle.history.specs.Counted.{History, accepted, owed_after, ended_after, begun_in, wanted_in, levels_in, recorded}
-use Rattle.history.specs.Since.{Since, Lists, Holds, Follows, NeverHeld, Counts, CountedRight}
+use Rattle.history.specs.Since.{Since, Lists, Follows, NeverHeld, CountedRight}
 
 -- Two histories that count alike.
 pub record Alike (b : Table) (h h' : History) : Type 0 where

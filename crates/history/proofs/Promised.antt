@@ -1,22 +1,21 @@
 -- What the calls made of a run keeps the promise. Assumes nothing.
-use Rattle.std.proofs.Common.{◌≡◌, ℕ, ◌+◌, ◌-◌, ◌*◌, ◌<◌, ◌≤◌, Bool, true, false, cond, not, ◌&&◌, ltb, ◌⊎◌, List, [], ◌∷◌, length, get_or, Some, sym, refl, ap, ◌∙◌, subst, inl, inr, ⊎_elim, arith}
-use Rattle.std.proofs.lemmas.Bool.{and_parts, and_from, both_ways, cases_Bool, not-true, not-false, lt-ltb, ltb-true, ltb-false}
+use Rattle.std.proofs.Common.{◌≡◌, ℕ, ◌+◌, ◌*◌, ◌<◌, ◌≤◌, true, false, cond, not, ◌&&◌, ltb, List, ◌∷◌, length, get_or, sym, ap, ◌∙◌, subst, arith}
+use Rattle.std.proofs.lemmas.Bool.{and_parts, and_from, both_ways, not-true, not-false, lt-ltb, ltb-true, ltb-false}
 use Rattle.std.proofs.ByRecursion.{All-get_or}
 use Rattle.calls.specs.declared.event.Event.{Event}
 use Rattle.calls.specs.declared.record.Record.{Record}
-use Rattle.calls.specs.Events.{no_record}
 use Rattle.fabric.specs.Paths.{shares}
 use Rattle.timing.specs.Counts.{some_to}
-use Rattle.timing.specs.Model.{Table, Flow, Lawful}
+use Rattle.timing.specs.Model.{Table, Flow}
 use Rattle.timing.specs.Figures.{bound_of}
 use Rattle.timing.proofs.Sums.{some_true, some_false}
-use Rattle.packets.specs.Calls.{Packet, Kept, no_packet, is_open, ledger, granted, slot_of, made_of, Accepted, Call}
+use Rattle.packets.specs.Calls.{Packet, Kept, no_packet, is_open, ledger, slot_of}
 use Rattle.packets.proofs.Arbiter.{granted_is}
 use Rattle.packets.proofs.Ledger.{calls_in_bound}
 use Rattle.packets.proofs.Steps.{ledger_length}
-use Rattle.history.specs.State.{State, row_of, route_of}
+use Rattle.history.specs.State.{State, route_of}
 use Rattle.history.specs.Counted.{History, accepted, wanted_in, granted_in, recorded}
-use Rattle.history.specs.Since.{Since, Lists, Holds}
+use Rattle.history.specs.Since.{Since, Lists}
 use Rattle.history.specs.Promise.{RunPromise, IsInTime, LedgerPromise, Upholds, SharesLink, is_granted, wanted}
 use Rattle.history.proofs.Links.{link_from, link_shares}
 

@@ -1,16 +1,14 @@
 -- A release that is accepted opens a packet; one that meets an open packet is of a flow without a bound. Assumes nothing.
-use Rattle.std.proofs.Common.{◌≡◌, ℕ, zero, suc, ◌+◌, ◌-◌, ◌*◌, ◌<◌, ◌≤◌, Bool, true, false, cond, not, ◌&&◌, eqb, ltb, leb, ◌⊎◌, List, [], ◌∷◌, length, get_or, set, Some, None, Ok, Err, Option, sym, refl, ap, ◌∙◌, subst, ap₂, inl, inr, ⊎_elim, arith, length-set}
+use Rattle.std.proofs.Common.{◌≡◌, ℕ, ◌+◌, ◌-◌, ◌*◌, ◌<◌, ◌≤◌, Bool, true, false, cond, not, ◌&&◌, eqb, ltb, leb, List, [], ◌∷◌, length, get_or, set, Some, None, Ok, Option, sym, refl, ap, ◌∙◌, subst, ap₂, ⊎_elim, arith, length-set}
 use Rattle.std.proofs.lemmas.List.{get_or-set_same, get_or-set_other}
-use Rattle.std.proofs.lemmas.Bool.{both_ways, cases_eq, cases_Bool, cases_lt, not-false, and_parts, leb-true, leb-false, ltb-true, ltb-false, eqb-false, lt-ltb, eq-eqb, ne_eqb}
+use Rattle.std.proofs.lemmas.Bool.{both_ways, cases_eq, cases_Bool, cases_lt, not-false, and_parts, leb-true, leb-false, ltb-true, ltb-false, eqb-false, lt-ltb}
 use Rattle.analysis.specs.declared.row.Row.{Row}
 use Rattle.analysis.specs.Standing.{Stands}
 use Rattle.calls.specs.declared.event.Event.TheVariants.{Released}
 use Rattle.calls.specs.declared.record.Record.{Record}
-use Rattle.calls.specs.declared.refusal.Refusal.TheVariants.{Busy}
-use Rattle.calls.specs.Refusals.{number_of}
-use Rattle.calls.specs.Events.{no_record, first_refusal}
+use Rattle.calls.specs.Events.{no_record}
 use Rattle.fabric.specs.Paths.{links_in, shares}
-use Rattle.packets.specs.Calls.{Call, release, inject, Packet, no_packet, is_open, wants, ledger, Fits, Accepted, slot_of, last_of, left_of, made_of, place_of}
+use Rattle.packets.specs.Calls.{Call, release, inject, Packet, no_packet, is_open, wants, ledger, Fits, slot_of, last_of, left_of, made_of, place_of}
 use Rattle.packets.proofs.Ledger.{free_again}
 use Rattle.packets.proofs.Rows.{rows_tell, wanting}
 use Rattle.packets.proofs.Steps.{slot_same, last_own, last_other, left_own, left_other, made_release, place_own, place_other, packet_new, packet_kept, new_of}
@@ -22,13 +20,13 @@ use Rattle.rows.specs.Grants as rows
 use Rattle.timing.proofs.Options.{cases_option, none_some}
 use Rattle.timing.specs.Model.{Table, Flow}
 use Rattle.timing.specs.Figures.{bound_of}
-use Rattle.history.specs.State.{State, known, row_of, route_of}
-use Rattle.history.specs.Steps.{release_checks, released}
+use Rattle.history.specs.State.{State, known, row_of}
+use Rattle.history.specs.Steps.{released}
 use Rattle.history.specs.Counted.{History, accepted, owed_after, recorded}
-use Rattle.history.specs.Since.{Since, Lists, Holds, Follows, NeverHeld}
+use Rattle.history.specs.Since.{Since, Lists, Holds, Follows}
 use Rattle.history.proofs.Carried.{no_report}
 use Rattle.history.proofs.Numbers.{less_from}
-use Rattle.history.proofs.Checks.{BeforeBusy, release_passed, release_busy}
+use Rattle.history.proofs.Checks.{BeforeBusy}
 
 -- a flow that never released has nothing to come
 none_left : (b : Table) (l : List Call) (i : ℕ) → last_of l i ≡ None → left_of b l i ≡ 0

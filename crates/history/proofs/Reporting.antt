@@ -1,7 +1,7 @@
 -- A report counts the packets. Assumes nothing.
-use Rattle.std.proofs.Common.{◌≡◌, ℕ, zero, suc, ◌+◌, ◌<◌, ◌≤◌, Bool, true, false, cond, not, ltb, List, [], ◌∷◌, length, get_or, take, Ok, Err, count_by, Result, sym, refl, ap, ◌∙◌, ap₂, arith}
+use Rattle.std.proofs.Common.{◌≡◌, ℕ, suc, ◌+◌, ◌<◌, ◌≤◌, Bool, true, false, cond, not, ltb, List, [], ◌∷◌, length, get_or, take, Ok, Err, count_by, Result, sym, refl, ap, ◌∙◌, ap₂, arith}
 use Rattle.std.proofs.lemmas.List.{length-take-le, get_or-take}
-use Rattle.std.proofs.lemmas.Bool.{ltb-false, cases_Bool, both_ways}
+use Rattle.std.proofs.lemmas.Bool.{ltb-false}
 use Rattle.std.proofs.lemmas.List.Sums.{sum_by-cons}
 use Rattle.calls.specs.declared.event.Event.TheVariants.{Reported}
 use Rattle.calls.specs.declared.record.Record.{Record}
@@ -9,15 +9,15 @@ use Rattle.calls.specs.declared.report.Report.{Report}
 use Rattle.calls.specs.declared.refusal.Refusal.{Refusal}
 use Rattle.calls.specs.declared.refusal.Refusal.TheVariants.{ShortLedger}
 use Rattle.calls.specs.Events.{no_record}
-use Rattle.packets.specs.Calls.{Call, Packet, no_packet, is_open, ledger, made_of}
+use Rattle.packets.specs.Calls.{Packet, no_packet, is_open, ledger}
 use Rattle.packets.proofs.Steps.{ledger_length}
 use Rattle.reports.proofs.Counting.{counts_add}
 use Rattle.reports.specs.Reports.{arrived_in, pending_in, told, report_of}
 use Rattle.rows.specs.declared.flow_row.FlowRow.{FlowRow}
 use Rattle.timing.specs.Model.{Table}
 use Rattle.history.specs.State.{State}
-use Rattle.history.specs.Counted.{History, accepted, recorded}
-use Rattle.history.specs.Since.{Since, Lists, Counts, CountedRight}
+use Rattle.history.specs.Counted.{History, accepted}
+use Rattle.history.specs.Since.{Since, Lists, Counts}
 use Rattle.history.proofs.Carried.{lists_alike}
 
 -- records and packets that are open at the same places

@@ -1,23 +1,19 @@
 -- Each call upholds the promise. Assumes nothing.
-use Rattle.std.proofs.Common.{◌≡◌, ℕ, Bool, true, false, cond, not, ◌&&◌, eqb, ltb, List, [], ◌∷◌, length, set, is_ok, Some, None, Ok, Err, Result, sym, refl, ap, ◌∙◌, subst, arith}
+use Rattle.std.proofs.Common.{◌≡◌, ℕ, not, eqb, ltb, List, [], ◌∷◌, length, Some, Ok, Err, sym, refl, ap, ◌∙◌, subst, arith}
 use Rattle.std.proofs.lemmas.Bool.{not-false}
 use Rattle.calls.specs.declared.event.Event.{Event}
 use Rattle.calls.specs.declared.event.Event.TheVariants.{Released, Arbitrated, Injected, Abandoned, Reported, Told}
 use Rattle.calls.specs.declared.record.Record.{Record}
-use Rattle.calls.specs.declared.refusal.Refusal.{Refusal}
 use Rattle.calls.specs.declared.refusal.Refusal.TheVariants.{Ended, Owed, LastSlot, WrongSlip, ShortLedger, Busy}
-use Rattle.calls.specs.declared.slip_name.SlipName.{SlipName}
 use Rattle.calls.specs.Events.{first_refusal}
 use Rattle.rows.specs.Grants as rows
-use Rattle.rows.specs.Releases.{opening}
-use Rattle.rows.specs.Serving.{grant_count, ledger_after}
-use Rattle.rows.specs.Times.{late, ahead, soon, slot_end}
+use Rattle.rows.specs.Serving.{grant_count}
+use Rattle.rows.specs.Times.{late, ahead, soon}
 use Rattle.timing.specs.Model.{Table}
 use Rattle.history.specs.State.{State, known, row_of, names}
-use Rattle.history.specs.Steps.{unless, release_checks, arbitrate_checks, inject_checks, abandon_checks, slip_of, released, arbitrated, injected, abandoned, Releases, Arbitrates, Injects, Abandons, Reports, Tells}
+use Rattle.history.specs.Steps.{release_checks, arbitrate_checks, inject_checks, slip_of}
 use Rattle.history.specs.Counted.{History}
 use Rattle.history.specs.Since.{Since, Lists}
-use Rattle.history.specs.Promise.{Upholds}
 use Rattle.history.specs.Theorems.{ReleaseUpholds, ArbitrateUpholds, InjectUpholds, AbandonUpholds, ReportUpholds, VerdictUpholds}
 use Rattle.history.proofs.Carried.{lists_alike, no_report, release_refused, arbitrate_refused, inject_refused, abandon_refused, abandon_since, report_since, verdict_since}
 use Rattle.history.proofs.Checks.{accepted_none, refused_some, passed, release_passed, release_busy}

@@ -2,7 +2,7 @@
 --   SharesLink: one link number stands in both routes
 --   IsInTime: of one packet; RunPromise: of the run; LedgerPromise: of the ledger and of the reports
 --   Upholds: a call, with its answer, keeps both, whatever calls went before
-use Rattle.std.specs.Prelude.{◌≡◌, ℕ, ◌+◌, ◌-◌, ◌*◌, ◌<◌, ◌≤◌, Bool, true, false, List, [], ◌∷◌, length, Some, slice_index_or}
+use Rattle.std.specs.Prelude.{◌≡◌, ℕ, ◌+◌, ◌-◌, ◌*◌, ◌<◌, ◌≤◌, Bool, true, false, List, ◌∷◌, length, Some, slice_index_or}
 use Rattle.calls.specs.declared.event.Event.{Event}
 use Rattle.calls.specs.declared.record.Record.{Record}
 use Rattle.calls.specs.Events.{no_record}

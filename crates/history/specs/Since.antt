@@ -2,17 +2,16 @@
 --   Holds: the run's rows stand for the table's flows, over a medium with the limit given
 --   Follows: what a run keeps of flow i is counted from the calls
 --   Since: the run is what the calls made of it; Lists: the ledger is
-use Rattle.std.specs.Prelude.{◌≡◌, ℕ, ◌+◌, ◌<◌, ◌≤◌, Bool, true, false, not, ◌&&◌, List, [], ◌∷◌, length, get_or, None, Ok, Err, count_by, nat_lt, slice_index_or}
+use Rattle.std.specs.Prelude.{◌≡◌, ℕ, ◌+◌, ◌<◌, ◌≤◌, true, not, ◌&&◌, List, [], ◌∷◌, length, get_or, None, Ok, Err, count_by, nat_lt, slice_index_or}
 use Rattle.analysis.specs.Answers.{Exactly}
 use Rattle.analysis.specs.Standing.{InSlot, Stands}
-use Rattle.calls.specs.declared.event.Event.{Event}
 use Rattle.calls.specs.declared.event.Event.TheVariants.{Released, Reported}
 use Rattle.calls.specs.declared.record.Record.{Record}
 use Rattle.calls.specs.declared.refusal.Refusal.TheVariants.{Busy}
 use Rattle.calls.specs.declared.report.Report.{Report}
 use Rattle.calls.specs.Events.{no_record}
 use Rattle.fabric.specs.Paths.{shares}
-use Rattle.packets.specs.Calls.{Call, Accepted, Packet, no_packet, is_open, wants, ledger, slot_of, last_of, left_of, made_of, place_of}
+use Rattle.packets.specs.Calls.{Call, Accepted, no_packet, is_open, wants, ledger, slot_of, last_of, left_of, made_of, place_of}
 use Rattle.rows.specs.declared.flow_row.Progress.{Progress}
 use Rattle.timing.specs.Model.{Table, Flow}
 use Rattle.timing.specs.Figures.{bound_of}

@@ -1,7 +1,6 @@
 -- The counts of a ledger's records add up, and rest on what the records say of being open and on nothing else. Assumes nothing.
-use Rattle.std.proofs.Common.{◌≡◌, ℕ, suc, ◌+◌, ◌<◌, Bool, true, false, cond, List, [], ◌∷◌, length, get_or, refl, ap₂, arith}
+use Rattle.std.proofs.Common.{◌≡◌, ℕ, suc, ◌+◌, Bool, true, false, cond, List, [], ◌∷◌, length, refl, arith}
 use Rattle.calls.specs.declared.record.Record.{Record}
-use Rattle.calls.specs.Events.{no_record}
 use Rattle.reports.specs.Reports.{arrived_in, pending_in}
 
 -- one record more

@@ -1,14 +1,11 @@
 -- The checks of a load that need no memory are the first of them. Assumes nothing.
-use Rattle.std.proofs.Common.{◌≡◌, ℕ, Bool, true, false, cond, List, [], ◌∷◌, ◌++◌, length, IfOk, IsErrAnd, Some, None, Option, Ok, Err, Result, sym, refl, ap, ◌∙◌, subst, arith}
-use Rattle.std.proofs.lemmas.Result.{err_from_is_err_and}
+use Rattle.std.proofs.Common.{◌≡◌, ℕ, Bool, true, false, List, ◌++◌, length, IfOk, Some, None, Option, Ok, Err, Result, refl, ap, ◌∙◌, arith}
 use Rattle.analysis.specs.Answers.{Exactly}
 use Rattle.analysis.specs.Loading.{load_checks, open_checks, flow_checks, misfit_checks, timing_of}
 use Rattle.calls.specs.declared.load_refusal.LoadRefusal.{LoadRefusal}
-use Rattle.calls.specs.declared.load_refusal.LoadRefusal.TheVariants.{Owed, Fault}
 use Rattle.calls.specs.declared.record.Record.{Record}
 use Rattle.fabric.specs.Routes.{Route}
 use Rattle.table.specs.declared.fault.LoadFault.{LoadFault}
-use Rattle.table.specs.declared.fault.LoadFault.TheVariants.{NoMemory}
 use Rattle.table.specs.Checks.{first_fault, header_checks, section_checks}
 use Rattle.table.specs.File.{header_of}
 use Rattle.table.proofs.Firsts.{both_passed, first_passed}
@@ -37,18 +34,6 @@ passed_on : (owed : Bool) (fault : Option LoadFault) → refusal_of owed fault �
 passed_on true fault e = let z : ◌≡◌ {A = ℕ} 0 1 = cc in absurd (omega arith)
 passed_on false None e = refl
 passed_on false (Some f) e = let z : ◌≡◌ {A = ℕ} 0 1 = cc in absurd (omega arith)
-
--- nothing was owed: the table's fault is the load's
-pub not_owed : (owed : Bool) (fault : Option LoadFault) (e : LoadFault) → owed ≡ false → fault ≡ Some e → refusal_of owed fault ≡ Some (Fault e)
-not_owed owed fault e idle is = ap (λ t. refusal_of t fault) idle ∙ ap (refusal_of false) is
-
--- a refusal that is handed up
-pub handed_up : {X : Type 0} (o : Option LoadRefusal) (P : X → Type 0) (r : Result X LoadRefusal) (e : LoadRefusal) → IsErrAnd r (λ y. y ≡ e) → ((e ≡ Fault NoMemory → ⊥) → o ≡ Some e) → BuildsRun o P r
-handed_up o P r e by first = let q = err_from_is_err_and r by in subst (BuildsRun o P) (sym (q.1 ∙ ap Err q.2)) first
-
--- no memory, whatever the checks say
-pub handed_nothing : {X : Type 0} (o : Option LoadRefusal) (P : X → Type 0) (r : Result X LoadRefusal) → IsErrAnd r (λ y. y ≡ Fault NoMemory) → BuildsRun o P r
-handed_nothing o P r by = handed_up o P r (Fault NoMemory) by (λ other. absurd (other refl))
 
 -- where the load was accepted, the promise begins
 pub begins_from :

@@ -1,5 +1,5 @@
 -- Calls that are made in turn. Assumes nothing.
-use Rattle.std.proofs.Common.{◌≡◌, ℕ, ◌+◌, ◌<◌, ◌≤◌, List, [], ◌∷◌, ◌++◌, map, reverse, length, get_or, take, sym, refl, ap, ◌∙◌, subst, ap₂, arith, take_all}
+use Rattle.std.proofs.Common.{◌≡◌, ℕ, ◌+◌, ◌<◌, ◌≤◌, List, [], ◌∷◌, ◌++◌, map, reverse, length, get_or, take, sym, refl, ap, ◌∙◌, subst, ap₂, take_all}
 use mathlib.Core.List.{reverse-append}
 use Rattle.std.proofs.lemmas.List.{map_push, take_more, length_push}
 use Rattle.calls.specs.declared.event.Call.{Call}

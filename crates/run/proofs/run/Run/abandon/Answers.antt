@@ -3,5 +3,5 @@ use Rattle.run.proofs.run.Run.abandon.Goals as goal
 
 pub returns : goal.returns
 returns g c =
-    let step = c.abandon-step.ensures in
+    let step = c.abandon_step.ensures in
     record { after = step.after; back = step.back; promise = λ k. abandon_upholds _ _ _ k _ _ step.after }

@@ -4,7 +4,7 @@ use Rattle.run.proofs.run.Run.load.Goals as goal
 
 pub returns : goal.returns
 returns g c =
-    let step = c.load-step.ensures in
+    let step = c.load_step.ensures in
     let before = state_of g.M.Medium.levels c.args.self.now in
     record {
       answer = step.answer;

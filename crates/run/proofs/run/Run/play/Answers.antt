@@ -1,4 +1,4 @@
-use Rattle.std.proofs.Common.{◌≡◌, true, reverse, vec_items, refl}
+use Rattle.std.proofs.Common.{true, reverse, vec_items, refl}
 use Rattle.std.proofs.lemmas.Bool.{both_ways}
 use Rattle.analysis.specs.Loading.{timing_of}
 use Rattle.history.proofs.Promised.{run_promise, ledger_promise}
@@ -10,10 +10,10 @@ returns g c =
     let most = g.M.Medium.most in
     let seen = state_of g.M.Medium.levels in
     let b = timing_of c.args.file.now (g.F.Fabric.route c.args.fabric.now) in
-    let told = c.in-ok-load.ensures in
+    let told = c.in_ok-load.ensures in
     let begins = told.promise c.args.ledger.now in
-    let made = c.play-all.ensures in
-    let h = reverse (vec_items c.play-all.new.events) in
+    let made = c.play_all.ensures in
+    let h = reverse (vec_items c.play_all.new.events) in
     let after = made.since b begins.since begins.lists in
     record {
       answer = (
@@ -24,7 +24,7 @@ returns g c =
           begun = told.answer.1;
           ran = made.ran;
           exact = told.exact;
-          promise = record { run = run_promise most b h (seen c.play-all.new.self) after.0; ledger = ledger_promise most b h (seen c.play-all.new.self) c.play-all.new.ledger after.0 after.1 };
+          promise = record { run = run_promise most b h (seen c.play_all.new.self) after.0; ledger = ledger_promise most b h (seen c.play_all.new.self) c.play_all.new.ledger after.0 after.1 };
         },
       );
       same = λ e. absurd (both_ways true e refl);

@@ -1,4 +1,4 @@
-use Rattle.std.proofs.Common.{◌≡◌, ◌<◌, ◌≤◌, length, vec_items, refl, ◌∙◌, arith}
+use Rattle.std.proofs.Common.{vec_items, refl, ◌∙◌, arith}
 use Rattle.run.specs.Seen.{state_of}
 use Rattle.run.proofs.Plays.{none_yet, one_more, all_made}
 use Rattle.run.proofs.run.Run.play_all.Goals as goal
@@ -6,18 +6,18 @@ use Rattle.run.proofs.run.Run.play_all.Goals as goal
 pub loop-call-init : goal.loop-call-init
 loop-call-init g c = (none_yet _ _ _ _ _ c.requires.none, refl)
 
-pub push-reserved-requires : goal.push-reserved-requires
-push-reserved-requires g c =
+pub push_reserved-requires : goal.push_reserved-requires
+push_reserved-requires g c =
     omega (arith, c.loop-call.invariant.0.count, c.loop-call.invariant.1, c.loop-call.events.ok.0, c.loop-call-test.true, c.requires.room)
 
 pub loop-call-preserved : goal.loop-call-preserved
 loop-call-preserved g c =
     let seen = state_of g.M.Medium.levels in
-    let told = c.play-call-event.ensures in (
+    let told = c.play_call-event.ensures in (
       one_more g.M.Medium.most (seen c.args.self.now) c.args.ledger.now c.args.calls.now c.loop-call.call-index (vec_items c.loop-call.events) (seen c.loop-call.self) c.loop-call.ledger
-          c.play-call-event.result (seen c.play-call-event.new.self) c.play-call-event.new.ledger _ (vec_items c.push-reserved.new.self) c.loop-call-test.true told.call told.step told.promise
-          c.push-reserved.ensures.items c.loop-call.invariant.0,
-      c.push-reserved.ensures.capacity ∙ c.loop-call.invariant.1,
+          c.play_call-event.result (seen c.play_call-event.new.self) c.play_call-event.new.ledger _ (vec_items c.push_reserved.new.self) c.loop-call-test.true told.call told.step told.promise
+          c.push_reserved.ensures.items c.loop-call.invariant.0,
+      c.push_reserved.ensures.capacity ∙ c.loop-call.invariant.1,
     )
 
 pub returns : goal.returns

@@ -3,5 +3,5 @@ use Rattle.run.proofs.run.Run.report.Goals as goal
 
 pub returns : goal.returns
 returns g c =
-    let step = c.report-step.ensures in
+    let step = c.report_step.ensures in
     record { answer = step.answer; tightest = step.tightest; promise = report_upholds _ _ _ _ _ _ step.answer }
