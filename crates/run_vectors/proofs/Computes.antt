@@ -1,6 +1,6 @@
 -- A worked run by computation. Assumes nothing.
 --   told: the refusals and the ledger; Computes: what is computed of them, from any run that the load may leave
-use Rattle.std.proofs.Common.{◌≡◌, ℕ, true, List, map, reverse, None, Option, sym, refl, ap, ◌∙◌, subst}
+use Rattle.std.proofs.Common.{◌≡◌, ℕ, true, List, map, reverse, None, Option, sym, ap, ◌∙◌, subst}
 use mathlib.Core.List.{reverse-reverse}
 use Rattle.calls.specs.declared.event.Event.{Event}
 use Rattle.calls.specs.declared.record.Record.{Record}

@@ -1,15 +1,14 @@
 -- The run that a load of three flows leaves. Assumes nothing.
 --   Spare: what a load does not fix of a flow's row, and a run never reads: places past the end of its route, marks of itself and of the flows below it
 --   start_of: the run, given these; roomy: a row can hold the flow
-use Rattle.std.proofs.Common.{◌≡◌, ℕ, zero, suc, ◌+◌, ◌-◌, ◌^◌, ◌<◌, ◌≤◌, Bool, true, false, ◌&&◌, ltb, leb, List, [], ◌∷◌, ◌++◌, map, length, get_or, replicate, sym, refl, ap, ◌∙◌, subst, arith, lit<, lit≤}
+use Rattle.std.proofs.Common.{◌≡◌, ℕ, zero, suc, ◌+◌, ◌-◌, ◌<◌, ◌≤◌, Bool, true, false, ◌&&◌, leb, List, [], ◌∷◌, ◌++◌, map, length, get_or, replicate, sym, refl, ap, ◌∙◌, subst, arith, lit<, lit≤}
 use Rattle.std.proofs.lemmas.List.{length-append, length-replicate, take_at}
-use Rattle.std.proofs.lemmas.Bool.{and_parts, ltb-true, leb-true}
+use Rattle.std.proofs.lemmas.Bool.{and_parts, leb-true}
 use Rattle.analysis.specs.declared.row.Row.{Row}
 use Rattle.analysis.specs.Loading.{profile_of}
 use Rattle.analysis.specs.Rows.{RowFits}
 use Rattle.analysis.specs.Tables.{record_of, path_of, table_of}
 use Rattle.fabric.specs.declared.path.Path.{Path}
-use Rattle.fabric.specs.Paths.{links_in}
 use Rattle.fabric.specs.Routes.{Route}
 use Rattle.parts.specs.declared.slot.Slot.{Slot}
 use Rattle.parts.specs.Slots.{slot_for}

@@ -9,7 +9,9 @@ use anyhow::anyhow;
 use calls::load_refusal::LoadRefusal;
 use case::Case;
 use cases::{BLANK, cases};
+use medium::line::Line;
 use mesh::mesh::Mesh;
+use run::run::Run;
 use script::{RUN, answered, calls_of};
 use std::alloc::Global;
 
@@ -17,9 +19,10 @@ use std::alloc::Global;
 fn run_agrees(heap: Global, case: &Case) -> Result<bool, LoadRefusal> {
     let mesh = Mesh::from_file(&case.file)?;
     let calls = calls_of(heap, &case.steps)?;
-    let ledger = [BLANK; 3];
-    let events: Vec<calls::event::Event> = Vec::new(heap);
-    Ok(answered(events.as_slice(), &case.steps) && ledger == case.ledger && RUN == 1)
+    let mut ledger = [BLANK; 3];
+    let mut run = Run::new(heap, Line::new());
+    let events = run.play(heap, &case.file, &mesh, RUN, calls.as_slice(), &mut ledger)?;
+    Ok(answered(events.as_slice(), &case.steps) && ledger == case.ledger)
 }
 
 // Whether the library does what is expected.

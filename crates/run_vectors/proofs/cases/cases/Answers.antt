@@ -4,7 +4,7 @@ use Rattle.table.specs.File.{header_of, flow_at}
 use Rattle.parts.specs.Split.{capacity, parts_of, last_flits, tail_of}
 use Rattle.rows.specs.Grants.{blocked, decided}
 use Rattle.rows.specs.Serving.{ledger_after, grant_count}
-use Rattle.timing.specs.Counts.{sum_to, some_to, every_to, ceil_div}
+use Rattle.timing.specs.Counts.{sum_to, every_to, ceil_div}
 use Rattle.timing.specs.Model.{within, figure, alone, jitter, delay, demand}
 use Rattle.timing.specs.Staircase.{climb, rounds}
 use Rattle.timing.specs.Figures.{base, settled, searched, figure_of, bounds_to, bound_of, rounds_of}
