@@ -6,7 +6,8 @@ usage: python3 tools/respell.py            at the top of the checkout
 tools/respelled.tsv has a row for each name: the old spelling, a tab, the new one. A third column `pages` says that the kit's own
 script has turned it in the code already, so only the pages still have it. Whole words alone are turned: in .antt and .rt files outside
 strings, in must-fail edits, and in the code spans of docs/*.md. In comments only names with a capital inside turn, since a
-word with a dash is mostly prose there, but for the lists of names at the head of a file. A second run changes nothing.
+word with a dash is mostly prose there, but for the lists of names at the head of a file. It was run once, straight after the kit's
+script; it is not for a tree that was ported, where names that the check makes, and docs/PORT.md, have old spellings on purpose.
 """
 
 import os
