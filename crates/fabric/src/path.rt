@@ -1,12 +1,10 @@
 // A route that was taken from a fabric and is kept: its links in their order.
-ghost use Rattle.std.specs.Prelude.{◌≡◌, ◌≤◌, length};
+use arrayvec::ArrayVec;
 
 pub mod taken;
 
-#[derive(Clone, Copy)]
+// No route has more than 64 links, so that none needs memory.
+#[derive(Clone, Drop)]
 pub struct Path {
-    links: [usize; 64],
-    len: usize,
-    ghost long: { length links ≡ 64 },
-    ghost few: { len ≤ 64 },
+    links: ArrayVec<usize, 64>,
 }
