@@ -1,10 +1,12 @@
 // A route that was taken from a fabric and is kept: its links in their order.
+ghost use Rattle.std.specs.Prelude.{◌≤◌, length};
+
 use arrayvec::ArrayVec;
 
 pub mod taken;
 
-// No route has more than 64 links, so that none needs memory.
-#[derive(Clone, Drop)]
+#[derive(Drop)]
 pub struct Path {
     links: ArrayVec<usize, 64>,
+    ghost few: { length links.items ≤ 64 },
 }

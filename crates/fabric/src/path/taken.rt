@@ -1,5 +1,5 @@
 // Taking a route from a fabric, and comparing two that were taken.
-ghost use Rattle.std.specs.Prelude.{◌≡◌, length};
+ghost use Rattle.std.specs.Prelude.{⊤, ◌≡◌, length};
 ghost use Rattle.fabric.specs.Paths.{links_in, stored, has, shares};
 
 use super::Path;
@@ -7,6 +7,7 @@ use crate::fabric::Fabric;
 use crate::fault::RouteFault;
 use crate::trip::Trip;
 use arrayvec::ArrayVec;
+use std::alloc::AllocError;
 
 impl Path {
     // Copies the route of a flow.
@@ -22,13 +23,6 @@ impl Path {
             links.push(link);
         }
         Ok(Path { links })
-    }
-
-    // The same links once more; no memory is asked for.
-    pub fn copied(&self) -> Path
-        ensures { result ≡ self.now }
-    {
-        self.clone().unwrap()
     }
 
     // How many links it has.
@@ -51,5 +45,17 @@ impl Path {
         ensures { result ≡ shares (links_in self.now) (links_in other.now) }
     {
         self.links.iter().any(|link| other.has(*link))
+    }
+}
+
+// It has the same links, and never fails, since no memory is asked for.
+impl Clone for Path {
+    ghost is_clone = { λ path copy. copy ≡ path };
+
+    ghost is_infallible = { λ _. ⊤ };
+
+    fn clone(&self) -> Result<Path, AllocError> {
+        let links = self.links.clone()?;
+        Ok(Path { links })
     }
 }
