@@ -1,13 +1,7 @@
 -- A value under a limit. Assumes nothing.
-use Rattle.std.proofs.Common.{◌≡◌, ℕ, ◌<◌, ◌≤◌, Bool, true, false, cond, leb, Some, None, Option, sym, refl, ap, ◌∙◌, arith}
-use Rattle.std.proofs.lemmas.Bool.{cond-true, cond-false, le-leb, lt-leb, leb-true, leb-false}
+use Rattle.std.proofs.Common.{◌≡◌, ℕ, ◌<◌, ◌≤◌, Bool, true, false, cond, leb, Some, None, Option, refl, arith}
+use Rattle.std.proofs.lemmas.Bool.{leb-true, leb-false}
 use Rattle.staircase.specs.Climbs.{within}
-
-pub fits : (most v y : ℕ) → y ≡ v → v ≤ most → Some y ≡ within most v
-fits most v y e le = ap Some e ∙ sym (cond-true (leb v most) (Some v) None (le-leb v most le))
-
-pub passes : (most v : ℕ) → most < v → None ≡ within most v
-passes most v lt = sym (cond-false (leb v most) (Some v) None (lt-leb v most lt))
 
 -- what an evaluation under a limit tells
 pub within_some : (most v y : ℕ) → Some y ≡ within most v → (y ≡ v) × (y ≤ most)
