@@ -9,11 +9,11 @@ within_some most v y e = by (leb v most) refl e
   where
     by : (t : Bool) → leb v most ≡ t → Some y ≡ cond t (Some v) None → (y ≡ v) × (y ≤ most)
     by true test same = let is : y ≡ v = cc in (is, omega (arith, leb-true v most test))
-    by false test same = let z : ◌≡◌ {A = ℕ} 0 1 = cc in absurd (omega arith)
+    by false test same = cc
 
 pub within_none : (most v : ℕ) → None ≡ within most v → most < v
 within_none most v e = by (leb v most) refl e
   where
     by : (t : Bool) → leb v most ≡ t → ◌≡◌ {A = Option ℕ} None (cond t (Some v) None) → most < v
-    by true test same = let z : ◌≡◌ {A = ℕ} 0 1 = cc in absurd (omega arith)
+    by true test same = cc
     by false test same = leb-false v most test
