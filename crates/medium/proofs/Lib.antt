@@ -1,4 +1,4 @@
+pub mod LevelLists
 pub mod Refusals
-pub mod Fronts
 pub mod SetBits
 pub mod NodePulls

@@ -2,7 +2,7 @@ use Rattle.std.proofs.Common.{◌-◌, ◌<◌, ap, ◌∙◌, arith, rules}
 use Rattle.std.proofs.lemmas.Bool.Decides.{nat_tests}
 use Rattle.medium.specs.Pulls.{bank_levels, pulled_at}
 use Rattle.medium.proofs.Refusals.{pull_accepted}
-use Rattle.medium.specs.LevelLists.{levels_length}
+use Rattle.medium.proofs.LevelLists.{levels_length}
 use Rattle.medium.proofs.NodePulls.{other_same, pull_last}
 use Rattle.medium.proofs.bank.NodeBankMedium.pull.Goals as goal
 
