@@ -10,7 +10,7 @@ use arrayvec::ArrayVec;
 // An interval is recessive when it is opened.
 #[derive(Drop)]
 pub struct Line {
-    levels: ArrayVec<Level, 128>,
+    levels: ArrayVec<Level, { Line::LIMIT }>,
     ghost few: { length levels.items ≤ 128 },
 }
 

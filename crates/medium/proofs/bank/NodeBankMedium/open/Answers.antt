@@ -1,6 +1,6 @@
-use Rattle.std.proofs.Common.{ap, arith}
+use Rattle.std.proofs.Common.{arith}
 use Rattle.std.proofs.lemmas.Bool.Decides.{nat_tests}
-use Rattle.medium.specs.Pulls.{pulled_at, bank_levels}
+use Rattle.medium.specs.Pulls.{pulled_at}
 use Rattle.medium.proofs.LevelLists.{levels_length, levels_more}
 use Rattle.medium.proofs.bank.NodeBankMedium.open.Goals as goal
 
