@@ -1,16 +1,17 @@
 -- What the words of a node bank tell of an interval: before any pull, after one, and of the first n nodes.
-use Rattle.std.proofs.Common.{◌≡◌, ℕ, zero, suc, ◌+◌, ◌-◌, ◌%◌, ◌^◌, ◌<◌, ◌≤◌, Bool, true, false, ◌||◌, List, length, get_or, set, replicate, sym, refl, ap, ◌∙◌, ⊎_elim, zero-add, arith}
+use Rattle.std.proofs.Common.{◌≡◌, ℕ, zero, suc, ◌+◌, ◌-◌, ◌%◌, ◌^◌, ◌<◌, ◌≤◌, Bool, true, false, ◌||◌, ◌==◌, ◌≢◌, List, length, get_or, set, replicate, sym, refl, ap, ◌∙◌, ⊎_elim, zero-add, arith}
 use Rattle.std.specs.List.{list_any, range_with_len}
 use Rattle.std.proofs.lemmas.List.Elements.{All-from_get_or}
 use Rattle.std.proofs.lemmas.List.Folds.{list_any_at, list_any_none}
 use Rattle.std.proofs.lemmas.List.FromFn.{length-range_with_len, get_or-range_with_len}
-use lib.Bits.{bit_or}
+use Rattle.std.specs.Int.RustNames.{bit_or}
+use Rattle.std.proofs.lemmas.Nat.Bits.{bit_at-zero, bit_at_or, bit_at-pow_same, bit_at-pow_other, bit_at-lt}
 use Rattle.std.proofs.lemmas.List.{get_or-set_same, get_or-set_other, get_or-replicate, get_or_past, length-replicate}
 use Rattle.std.proofs.lemmas.Bool.{cases_eq, cases_lt}
+use Rattle.std.proofs.lemmas.Bool.Decides.{nat_tests}
 use Rattle.medium.specs.Pulls.{word_of, bit_at, pulled_by, marked, pulled_under, pulled_at, bank_levels}
 use Rattle.medium.specs.declared.level.Level.TheVariants.{Dominant}
 use Rattle.medium.proofs.LevelLists.{levels_last}
-use Rattle.medium.proofs.SetBits.{bit_same, bit_other, bit_zero}
 
 -- What is told of the first n nodes is told of the numbers below n.
 pub under_any : (ws : List ℕ) (k n : ℕ) → list_any (λ a. pulled_by ws a k) (range_with_len 0 n) ≡ pulled_under ws k n
@@ -42,6 +43,21 @@ under_clear ws k n f =
     list_any_none P (range_with_len 0 n)
     (All-from_get_or (λ a. P a ≡ false) (range_with_len 0 n) 0 (λ i l. ap P (get_or-range_with_len 0 n i 0 (omega arith) ∙ zero-add i) ∙ f i (omega arith)))
 
+-- The bit that is set by `or`.
+bit_same : (w b : ℕ) → bit_at (bit_or w (2 ^ b)) b ≡ true
+bit_same w b =
+    let both = bit_at_or w (2 ^ b) b in
+    let one = bit_at-pow_same b in
+    let small = bit_at-lt w b in
+    grind (arith, nat_tests)
+
+-- The other bits.
+bit_other : (w b c : ℕ) → (c ≢ b) → bit_at (bit_or w (2 ^ b)) c ≡ bit_at w c
+bit_other w b c ne =
+    let both = bit_at_or w (2 ^ b) c in
+    let none = bit_at-pow_other b c ne in
+    grind (arith, nat_tests)
+
 zeros : (i : ℕ) → ◌≡◌ {A = ℕ} (get_or (replicate 512 0) i 0) 0
 zeros i =
     ⊎_elim
@@ -51,7 +67,7 @@ zeros i =
 
 -- Words that were cleared whole: nobody pulled any interval.
 pub cleared : (k : ℕ) → pulled_at (replicate 512 0) k ≡ false
-cleared k = under_clear (replicate 512 0) k 256 (λ a l. ap (λ w. bit_at w (k % 64)) (zeros (word_of a k)) ∙ bit_zero (k % 64))
+cleared k = under_clear (replicate 512 0) k 256 (λ a l. ap (λ w. bit_at w (k % 64)) (zeros (word_of a k)) ∙ ap (λ n. n == 1) (bit_at-zero (k % 64)))
 
 -- A pull of interval j by a node is told.
 pulled_here : (ws : List ℕ) (node j : ℕ) → length ws ≡ 512 → node < 256 → j < 128 → pulled_by (marked ws node j) node j ≡ true

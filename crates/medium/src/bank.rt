@@ -12,6 +12,7 @@ use crate::medium::Medium;
 use crate::words::Words;
 
 // Past the count no node has a bit, so that the next interval opens recessive.
+// A rule of the project: the words and the count of the intervals opened, in fixed memory.
 #[derive(Drop)]
 pub struct NodeBank {
     words: Words,
@@ -21,6 +22,7 @@ pub struct NodeBank {
 }
 
 impl NodeBank {
+    // A rule of the project: each medium states its limit as this constant, and `limit` reads it.
     pub const LIMIT: usize = 128;
 
     // A node bank without intervals.

@@ -2,7 +2,7 @@
 ghost use Rattle.std.specs.Prelude.{◌≡◌};
 ghost use Rattle.medium.specs.Levels.{level_of};
 
-// Recessive until some node pulls the interval.
+// Recessive until some node pulls the interval, so that an interval opens at the default.
 #[derive(Clone, Copy, Default, PartialEq, Eq, Debug)]
 pub enum Level {
     #[default]

@@ -7,7 +7,7 @@ use crate::level::Level;
 use crate::medium::Medium;
 use arrayvec::ArrayVec;
 
-// An interval is recessive when it is opened.
+// A vector of fixed capacity, which never allocates.
 #[derive(Drop)]
 pub struct Line {
     levels: ArrayVec<Level, { Line::LIMIT }>,
@@ -15,6 +15,7 @@ pub struct Line {
 }
 
 impl Line {
+    // A rule of the project: each medium states its limit as this constant, and `limit` reads it.
     pub const LIMIT: usize = 128;
 
     // A line without intervals.
@@ -44,7 +45,7 @@ impl Medium for Line {
 
     fn open(&mut self) -> Result<(), MediumFault> {
         self.levels
-            .try_push(Level::Recessive)
+            .try_push(Level::default())
             .map_err(|_| MediumFault::Full)
     }
 
