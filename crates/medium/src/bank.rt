@@ -1,5 +1,5 @@
 // The node bank: each node's own pulls.
-ghost use Rattle.std.specs.Prelude.{◌≡◌, ℕ, ◌+◌, ◌<◌, ◌≤◌, false, [], if◌then◌else◌, Some, None, nat_lt};
+ghost use Rattle.std.specs.Prelude.{◌≡◌, ℕ, ◌<◌, ◌≤◌, false, []};
 ghost use Rattle.medium.specs.Levels.{level_of};
 ghost use Rattle.medium.specs.Pulls.{bank_levels, pulled_at};
 ghost use Rattle.std.proofs.Common.{arith};
