@@ -25,6 +25,7 @@ under_from ws k n a l e =
     let P = λ (b : ℕ). pulled_by ws b k in
     list_any_at P (range_with_len 0 n) a 0 (omega (arith, length-range_with_len 0 n)) (ap P (get_or-range_with_len 0 n a 0 l ∙ zero-add a) ∙ e)
 
+-- Tests that agree on each number of a range agree on whether one passes.
 any_same : (p q : ℕ → Bool) (a n : ℕ) → ((i : ℕ) → i < a + n → p i ≡ q i) → list_any p (range_with_len a n) ≡ list_any q (range_with_len a n)
 any_same p q a zero f = refl
 any_same p q a (suc n) f =
@@ -35,6 +36,7 @@ under_same : (ws vs : List ℕ) (k n : ℕ) → ((a : ℕ) → a < n → pulled_
 unfolding pulled_under
 under_same ws vs k n f = any_same (λ a. pulled_by ws a k) (λ a. pulled_by vs a k) 0 n (λ a l. f a (omega arith))
 
+-- Words in which no node pulled the interval tell of none.
 under_clear : (ws : List ℕ) (k n : ℕ) → ((a : ℕ) → a < n → pulled_by ws a k ≡ false) → pulled_under ws k n ≡ false
 unfolding pulled_under
 under_clear ws k n f =
@@ -58,6 +60,7 @@ bit_other w b c ne =
     let none = bit_at-pow_other b c ne in
     grind (arith, nat_tests)
 
+-- A cleared word, or none, is 0.
 zeros : (i : ℕ) → ◌≡◌ {A = ℕ} (get_or (replicate 512 0) i 0) 0
 zeros i =
     ⊎_elim

@@ -15,6 +15,7 @@ first_past n most None few all =
 first_past n most (Some i) few found =
     ⊎_elim (λ (l : n < i). absurd (omega (arith, found.3 n (omega arith) l))) (λ (l : i ≤ n). omega (arith, found.2)) (cases_lt n i)
 
+-- What a read tells of the place where it found nothing, or a level.
 not_open : (ls : List Level) (k : ℕ) → is_some (read_at ls k) ≡ false → length ls ≤ k
 not_open ls k e = grind (arith, nat_tests)
 
