@@ -12,8 +12,7 @@ use Rattle.table.specs.Profiles.{profile_at}
 use Rattle.table.specs.File.{flows_of, flow_at}
 use Rattle.table.specs.Checks.{first_fault, size_checks, shape_checks, unlisted_checks, reserved_checks, profile_checks, header_checks, section_checks}
 use Rattle.table.proofs.Firsts.{both_passed}
-use Rattle.parts.specs.declared.slot.Slot.{Slot}
-use Rattle.parts.specs.Slots.{slot_of, slot_for}
+use Rattle.parts.specs.Slots.{slot_for}
 use Rattle.analysis.specs.declared.setting.Setting.{Setting}
 use Rattle.analysis.specs.Settings.{SetFor}
 use Rattle.analysis.specs.Loading.{misfit_checks, open_checks, profile_of, no_profile}

@@ -33,8 +33,8 @@ every_list q test (x ∷ xs) a same =
     let here = same 0 x (omega arith) ∙ ap q first in
     let rest =
     every_list q test xs (suc a) (λ k d less.
-        let place : a + suc k ≡ suc a + k = omega arith in
-        same (suc k) d (omega arith) ∙ ap q place) in
+    let place : a + suc k ≡ suc a + k = omega arith in
+    same (suc k) d (omega arith) ∙ ap q place) in
     let all : a + length (x ∷ xs) ≡ suc a + length xs = omega arith in
     ap (λ n. every_to n q) all
     ∙ rest
@@ -50,8 +50,8 @@ every_range q test (suc m) none same =
     let all : 1 + length (range_with_len 1 m) ≡ suc m = omega (arith, length-range_with_len 1 m) in
     let each =
     every_list q test (range_with_len 1 m) 1 (λ k d less.
-        let inside : k < m = omega (arith, length-range_with_len 1 m) in
-        ap test (get_or-range_with_len 1 m k d inside) ∙ same (1 + k) (omega arith) (omega arith)) in
+    let inside : k < m = omega (arith, length-range_with_len 1 m) in
+    ap test (get_or-range_with_len 1 m k d inside) ∙ same (1 + k) (omega arith) (omega arith)) in
     ap (λ k. list_all test (range_with_len 1 k)) count
     ∙ sym (ap (λ t. t && list_all test (range_with_len 1 m)) none)
     ∙ sym each
@@ -67,10 +67,10 @@ every_row q test rows none same =
     let all : 1 + length (enumerate_from 0 rows) ≡ length rows + 1 = omega arith in
     let each =
     every_list q test (enumerate_from 0 rows) 1 (λ k d less.
-        let inside : k < length rows = omega arith in
-        let place : k + 1 ≡ 1 + k = omega arith in
-        let number : 0 + k ≡ k = omega arith in
-        ap test (get_or-enumerate_from 0 rows k d inside) ∙ ap (λ (n : ℕ). test (n, get_or rows k d.1)) number ∙ same k d.1 inside ∙ ap q place) in
+    let inside : k < length rows = omega arith in
+    let place : k + 1 ≡ 1 + k = omega arith in
+    let number : 0 + k ≡ k = omega arith in
+    ap test (get_or-enumerate_from 0 rows k d inside) ∙ ap (λ (n : ℕ). test (n, get_or rows k d.1)) number ∙ same k d.1 inside ∙ ap q place) in
     sym (ap (λ t. t && list_all test (enumerate_from 0 rows)) none) ∙ sym each ∙ ap (λ k. every_to k q) all
 
 -- a figure is 0 where there is none

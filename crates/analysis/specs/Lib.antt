@@ -6,3 +6,4 @@ pub mod Loading
 pub mod Settings
 pub mod Rows
 pub mod Answers
+pub mod Printed

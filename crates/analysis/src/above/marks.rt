@@ -12,10 +12,7 @@ impl Above {
     pub(crate) fn sharing(heap: Global, rows: &[Row], path: &Path) -> Result<Above, AllocError>
         ensures { IfOk result (λ above. above.flags.items ≡ map (shares_with path.now) rows.now) }
     {
-        let flags = rows
-            .iter()
-            .map(|row| row.path.shares(path))
-            .collect(heap)?;
+        let flags = rows.iter().map(|row| row.path.shares(path)).collect(heap)?;
         Ok(Above { flags })
     }
 

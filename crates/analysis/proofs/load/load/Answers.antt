@@ -125,7 +125,7 @@ returns g c =
     record {
       answer = (
         ap (λ (n : ℕ). first_fault (load_checks bs n R L)) (sym c.node_count-nodes.ensures)
-        ∙ routes_decide bs N L R fine s.header s.profile s.slot xs set.header_is set.profile_is set.slot_is er right-all None built.0,
+            ∙ routes_decide bs N L R fine s.header s.profile s.slot xs set.header_is set.profile_is set.slot_is er right-all None built.0,
         record { slot_is = set.slot_is; rows_fit = rows_of bs N L R fine s.header s.profile s.slot xs set.header_is set.profile_is set.slot_is er right-all _ built.1 },
       );
       memory = λ _. ap (λ (n : ℕ). first_fault (open_checks (length bs) L n (header_of bs))) (sym c.node_count-nodes.ensures) ∙ fine;

@@ -1,4 +1,4 @@
-use Rattle.std.proofs.Common.{◌≡◌, ℕ, ◌+◌, Bool, not, ◌||◌, is_some, Option, ap, ◌∙◌, ap₂, rules, tests, arith}
+use Rattle.std.proofs.Common.{ℕ, ◌+◌, Bool, not, ◌||◌, is_some, Option, ap, ◌∙◌, ap₂, rules, tests, arith}
 use Rattle.std.proofs.lemmas.Iterator.{YieldsList-from_slice}
 use Rattle.std.proofs.lemmas.Iterator.Consumers.{YieldsList-from_enumerate}
 use Rattle.std.proofs.lemmas.Iterator.Search.{all_from_yields_List}
@@ -19,4 +19,4 @@ returns c = λ b met.
     all_from_yields_List test _ _ _ c.all.ensures.ran (YieldsList-from_enumerate (YieldsList-from_slice rows cc) cc) (λ x b q k. search (rules, tests))
     ∙ every_row (λ h. not (b.H h i) || is_some (bound_of b h)) test rows (holds_when_free (b.H 0 i) (is_some (bound_of b 0)) (none_first b met.told.ordered i))
     (λ k d less.
-        ap₂ (λ (s t : Bool). not s || t) (met.marks (k + 1) (omega arith) (omega arith)) (ap (λ (o : Option ℕ). is_some o) (met.told.standing k d less).bound))
+    ap₂ (λ (s t : Bool). not s || t) (met.marks (k + 1) (omega arith) (omega arith)) (ap (λ (o : Option ℕ). is_some o) (met.told.standing k d less).bound))

@@ -1,7 +1,5 @@
-use Rattle.std.proofs.Common.{◌≡◌, ℕ, ◌+◌, ◌-◌, ◌*◌, ◌<◌, ◌≤◌, sym, ap, ◌∙◌, arith}
-use Rattle.timing.specs.Model.{Table, alone as aloneOf}
-use Rattle.timing.specs.Figures.{base}
-use Rattle.analysis.specs.Rivals.{next, Met}
+use Rattle.std.proofs.Common.{ℕ, ◌-◌, ◌*◌, sym, ap, ◌∙◌, arith}
+use Rattle.analysis.specs.Rivals.{next}
 use Rattle.analysis.proofs.Figuring.{unbounded, overdue, demand_is, found, start_is}
 use Rattle.analysis.proofs.bounding.Rivals.bound.Goals as goal
 use Rattle.analysis.proofs.bounding.Rivals.bound.Goals.{then-not-all_bounded-via-then-not-all_bounded, then-not-all_bounded-via-else-not-all_bounded+then-ground-from}
