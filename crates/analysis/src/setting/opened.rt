@@ -17,9 +17,7 @@ impl Setting {
         requires spare { header.spare ≤ 4095 }
         ensures { MatchResult result (SetFor header) (λ _. profile_at header.profile ≡ None) }
     {
-        let Some(profile) = Profile::numbered(header.profile) else {
-            return Err(LoadFault::Profile);
-        };
+        let profile = Profile::try_from(header.profile)?;
         let Some(slot) = Slot::new(&header, &profile) else {
             unreachable()
         };
