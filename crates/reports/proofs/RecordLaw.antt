@@ -1,5 +1,5 @@
 -- The place that a report tells is that of the record that came closest to its bound. Assumes nothing.
-use Rattle.std.proofs.Common.{◌≡◌, ℕ, ◌-◌, ◌≤◌, true, false, ◌||◌, ltb, List, get_or, Some, None, Option, sym, refl, ap, ◌∙◌, subst, inl, inr, arith}
+use Rattle.std.proofs.Common.{◌≡◌, ℕ, ◌-◌, ◌≤◌, ◌||◌, ltb, List, get_or, Some, None, Option, sym, refl, ap, ◌∙◌, subst, inl, inr, arith}
 use Rattle.std.proofs.lemmas.Bool.{cases_Bool, or_parts, or_from, ltb-false, le-ltb, cond-true, cond-false}
 use Rattle.calls.specs.declared.record.Record.{Record}
 use Rattle.calls.specs.Events.{no_record}
@@ -7,7 +7,7 @@ use Rattle.rows.specs.declared.flow_row.FlowRow.{FlowRow}
 use Rattle.tightest.specs.Order.{tightest_of}
 use Rattle.tightest.specs.Counted.{counted}
 use Rattle.tightest.specs.Numbers.{lower}
-use Rattle.tightest.proofs.InTurn.{by_numbers, lower_level}
+use Rattle.tightest.proofs.InTurn.{by_numbers, one_lower}
 use Rattle.tightest.proofs.Picking.{Picks, picks}
 use Rattle.reports.specs.declared.timely.Timely.{Timely}
 use Rattle.reports.specs.Margins.{bound_for, left_of, margin_of, timely_with, timely_at, timely_ranks, closer, place_of, tightest_record, InTime, record_ranks, Closest, TightestRecord}
@@ -81,14 +81,6 @@ made_why r p (Some m) t e =
     record { margin = ap (λ (n : ℕ). Some n) same; is = sym is ∙ ap (packet r p) same }
 
 module _ (rows : List FlowRow) (k : List Record) where
-  -- two places that are level are one
-  level : (p q m n : ℕ) → (q ≡ p → ⊥) → lower (record_ranks k q n) (record_ranks k p m) ≡ false → lower (record_ranks k p m) (record_ranks k q n) ≡ true
-  level p q m n apart back =
-      elim (cases_Bool (lower (record_ranks k p m) (record_ranks k q n))) [
-        | inl front ↦ front
-        | inr not ↦ absurd (apart (ap (λ (xs : List ℕ). get_or xs 3 0) (lower_level (record_ranks k q n) (record_ranks k p m) back not)))
-      ]
-
   law_from : (o : Option Timely) → Picks closer (timely_at rows) no_record k o → TightestRecord rows k (place_of o)
   unfolding packet
   law_from None h = λ p m l timely.
@@ -106,7 +98,7 @@ module _ (rows : List FlowRow) (k : List Record) where
             λ q m l apart timely.
             let s = get_or k q no_record in
             let back = h.none_before q (packet s q m) l (ap (timely_with s q) (margin_of_lem rows s m timely)) in
-            level p q t.margin m apart (sym (ap (λ (x : Timely). lower (record_ranks k q m) (timely_ranks x)) made.is) ∙ back);
+            one_lower (record_ranks k p t.margin) (record_ranks k q m) (λ e. apart (ap (λ (xs : List ℕ). get_or xs 3 0) (sym e))) (sym (ap (λ (x : Timely). lower (record_ranks k q m) (timely_ranks x)) made.is) ∙ back);
       })
 
   pub record_law : TightestRecord rows k (tightest_record rows k)
