@@ -1,28 +1,13 @@
 // The verdict on a flow.
 ghost use Rattle.std.specs.Prelude.{◌≡◌, IfOk};
-ghost use Rattle.analysis.specs.Answers.{figures_of};
 ghost use Rattle.reports.specs.Verdicts.{tightest_flow, verdict_of, TightestFlow};
 
 use crate::slack::slack_of;
-use analysis::figures::Figures;
-use analysis::row::Row;
 use calls::refusal::Refusal;
 use calls::report::Verdict;
 use rows::flow_row::FlowRow;
 use rows::rows::Rows;
 use tightest::kept::tighter;
-
-fn figures_of(flow: &Row) -> Figures
-    ensures { result ≡ figures_of flow.now }
-{
-    Figures {
-        hops: flow.path.len(),
-        parts: flow.parts,
-        alone: flow.alone,
-        bound: flow.bound,
-        rounds: flow.rounds,
-    }
-}
 
 // The bounded flow whose bound comes closest to its deadline, if there is one.
 fn tightest_flow(flows: &[FlowRow]) -> Option<usize>
@@ -47,7 +32,7 @@ pub fn verdict(rows: &Rows, flow: usize) -> Result<Verdict, Refusal>
         .and_then(|place| flows.get(place))
         .ok_or(Refusal::NoFlow)?;
     Ok(Verdict {
-        figures: figures_of(&row.flow),
+        figures: row.flow.figures(),
         tightest: tightest_flow(flows),
     })
 }
