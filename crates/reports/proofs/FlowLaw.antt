@@ -22,7 +22,7 @@ record Made (i deadline : ℕ) (o : Option ℕ) (s : Slack) : Type 0 where
 
 made_why : (i deadline : ℕ) (o : Option ℕ) (s : Slack) → slack_with i deadline o ≡ Some s → Made i deadline o s
 unfolding flow
-made_why i deadline None s e = let z : ◌≡◌ {A = ℕ} 0 1 = cc in absurd (omega arith)
+made_why i deadline None s e = absurd cc
 made_why i deadline (Some b) s e =
     let is : s ≡ flow i (deadline - b) = cc in
     record { bound = b; bounded = refl; left = ap (λ (x : Slack). x.left) is; is = ap (λ (x : Slack). x.flow) is }

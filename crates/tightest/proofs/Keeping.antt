@@ -1,6 +1,6 @@
 -- What is kept of items that are offered in turn is the tightest of them. Assumes nothing.
-use Rattle.std.proofs.Common.{◌≡◌, ℕ, zero, suc, ◌<◌, Bool, true, false, List, [], ◌∷◌, length, get_or, Some, None, Option, sym, refl, ap, ◌∙◌, inl, inr, arith}
-use Rattle.std.proofs.lemmas.Bool.{true≢false, cases_Bool, both_ways, cond_both}
+use Rattle.std.proofs.Common.{◌≡◌, ℕ, zero, suc, ◌<◌, Bool, true, false, List, [], ◌∷◌, length, get_or, Some, None, Option, sym, refl, ap, ◌∙◌, arith}
+use Rattle.std.proofs.lemmas.Bool.{cond_both}
 use Rattle.std.proofs.lemmas.Cmp.{tied_itself, upto}
 use Rattle.std.specs.Cmp.{IsTotalOrder}
 use Rattle.std.specs.Ordering.{is_lt, is_gt, ordering_reverse}
@@ -16,8 +16,8 @@ pub record Orders {T : Type 0} (before : T → T → Bool) : Type 0 where
 
 is_less : (o : Ordering) → is_lt o ≡ true → o ≡ Less
 is_less Less t = refl
-is_less Equal t = absurd (true≢false (sym t))
-is_less Greater t = absurd (true≢false (sym t))
+is_less Equal t = absurd cc
+is_less Greater t = absurd cc
 
 is_back : (o : Ordering) → is_lt (ordering_reverse o) ≡ is_gt o
 is_back Less = refl
@@ -44,13 +44,13 @@ one_more before a xs b ys f (Some y) h = f y h
 
 module _ {T : Type 0} (before : T → T → Bool) (o : Orders before) where
   lowers : (x y z : T) → before x y ≡ true → before x z ≡ false → before y z ≡ false
-  lowers x y z t f = elim (cases_Bool (before y z)) [ inl s ↦ absurd (both_ways (before x z) f (o.follows x y z t s)) | inr s ↦ s ]
+  lowers x y z t f = grind (arith, o.follows x y z)
 
   lifts : (x y z : T) → before x z ≡ true → before x y ≡ false → before y z ≡ true
-  lifts x y z t f = elim (cases_Bool (before y z)) [ inl s ↦ s | inr s ↦ absurd (both_ways (before x z) (o.splits x y z f s) t) ]
+  lifts x y z t f = grind (arith, o.splits x y z)
 
   passes : (x y z : T) → before x z ≡ true → before y z ≡ false → before x y ≡ true
-  passes x y z t f = elim (cases_Bool (before x y)) [ inl s ↦ s | inr s ↦ absurd (both_ways (before x z) (o.splits x y z s f) t) ]
+  passes x y z t f = grind (arith, o.splits x y z)
 
   -- b is all there is
   alone : (b : T) → Leads before (b ∷ []) b
