@@ -1,5 +1,5 @@
 // The links of a route, one by one: along x first, then along y.
-ghost use Rattle.std.specs.Prelude.{◌≡◌, ◌+◌, ◌*◌, ◌<◌, length, max, Ok};
+ghost use Rattle.std.specs.Prelude.{◌≡◌, ◌*◌, ◌<◌, length, max, Ok};
 ghost use Rattle.mesh.specs.Grid.{Both, column, row};
 ghost use Rattle.mesh.specs.Paths.{visited, heading, step_link};
 

@@ -1,10 +1,10 @@
 // The mesh as a fabric.
-ghost use Rattle.std.specs.Prelude.{◌≡◌, ◌+◌, ◌*◌, ◌<◌};
+ghost use Rattle.std.specs.Prelude.{◌≡◌, ◌*◌, ◌<◌};
 ghost use Rattle.std.specs.Result.{result_map_both};
 ghost use Rattle.mesh.specs.Links.{core, router, mesh_ends};
 ghost use Rattle.mesh.specs.Paths.{mesh_route};
-ghost use Rattle.std.proofs.Common.{arith};
-ghost use Rattle.mesh.specs.Routes.{size_some, node_known, route_lawful};
+ghost use Rattle.std.proofs.Common.{arith, mul-pos};
+ghost use Rattle.mesh.specs.Routes.{node_known, route_lawful};
 
 use super::Mesh;
 use super::path::Walk;
@@ -65,7 +65,7 @@ impl Fabric for Mesh {
 
     ghost route = { λ f flow s d. mesh_route f.width f.height s d };
 
-    ghost sizes = { λ f. omega (arith, size_some f.width f.height f.wide f.high) };
+    ghost sizes = { λ f. omega (arith, mul-pos f.wide f.high) };
 
     ghost known = { λ f flow s d missing. node_known f.width f.height s d missing };
 
