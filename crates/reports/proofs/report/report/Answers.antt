@@ -12,12 +12,12 @@ use Rattle.reports.proofs.report.report.Goals as goal
 
 pub returns : goal.returns
 returns c =
-    let rows = vec_items c.args.rows.now.items in
+    let rows = c.args.rows.now in
     let count = c.args.count in
     let ledger = c.args.ledger.now in
     let k = take count ledger in
     let is : c.tell.result ≡ told rows k = c.tell.ensures
-    ∙ ap (λ (flows : List FlowRow). told flows (take (count - 0) ledger)) c.as_slice.ensures
+    ∙ ap (λ (flows : List FlowRow). told flows (take (count - 0) ledger)) c.as_slice.ensures.rows
     ∙ ap (λ (n : ℕ). told rows (take n ledger)) (sub-zero count) in
     record {
       answer =

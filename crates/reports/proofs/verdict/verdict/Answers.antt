@@ -26,8 +26,8 @@ given rows i v row test figures tightest =
 pub returns : goal.returns
 returns c =
     let flows = c.as_slice-flows.result.now in
-    let rows = vec_items c.args.rows.now.items in
-    let same = c.as_slice-flows.ensures in
+    let rows = c.args.rows.now in
+    let same = c.as_slice-flows.ensures.rows in
     let here = c.if-flow-flows.false in
     let test : (ltb c.args.flow 1 || ltb (length flows) c.args.flow) ≡ false = grind (arith, nat_tests) in
     let v : Verdict = record { figures = c.figures_of.result; tightest = c.tightest_flow.result } in
