@@ -5,50 +5,36 @@ ghost use Rattle.history.specs.Begun.{LoadBegins};
 ghost use Rattle.history.specs.Theorems.{ReleaseUpholds, ArbitrateUpholds, InjectUpholds, AbandonUpholds, ReportUpholds, VerdictUpholds};
 
 // A release, accepted or refused, keeps the promise after whatever calls went before it.
-pub fn release_upholds() -> u8
+pub fn release_upholds()
     ensures { ReleaseUpholds }
-{
-    0
-}
+{}
 
 // So does an arbitration.
-pub fn arbitrate_upholds() -> u8
+pub fn arbitrate_upholds()
     ensures { ArbitrateUpholds }
-{
-    0
-}
+{}
 
 // So does an injection.
-pub fn inject_upholds() -> u8
+pub fn inject_upholds()
     ensures { InjectUpholds }
-{
-    0
-}
+{}
 
 // So does the end of a run.
-pub fn abandon_upholds() -> u8
+pub fn abandon_upholds()
     ensures { AbandonUpholds }
-{
-    0
-}
+{}
 
 // So does a report.
-pub fn report_upholds() -> u8
+pub fn report_upholds()
     ensures { ReportUpholds }
-{
-    0
-}
+{}
 
 // So does a verdict.
-pub fn verdict_upholds() -> u8
+pub fn verdict_upholds()
     ensures { VerdictUpholds }
-{
-    0
-}
+{}
 
 // After a load, with no call yet, the promise holds.
-pub fn load_begins() -> u8
+pub fn load_begins()
     ensures { LoadBegins }
-{
-    0
-}
+{}

@@ -34,9 +34,9 @@ fn tell(flows: &[FlowRow], records: &[Record]) -> Report
 
 // Tells of the first `count` records of the ledger that is lent. Refused where the ledger has fewer.
 pub fn report(rows: &Rows, count: usize, ledger: &[Record]) -> Result<Report, Refusal>
-    ensures answer { result ≡ report_of rows.now.items.items count ledger.now }
+    ensures answer { result ≡ report_of rows.now count ledger.now }
     ensures counts { IfOk result (λ t. t.arrived + t.pending ≡ t.accepted) }
-    ensures tightest { IfOk result (λ t. TightestRecord rows.now.items.items (take count ledger.now) t.tightest) }
+    ensures tightest { IfOk result (λ t. TightestRecord rows.now (take count ledger.now) t.tightest) }
 {
     let records = ledger.get(..count).ok_or(Refusal::ShortLedger)?;
     Ok(tell(rows.as_slice(), records))

@@ -23,8 +23,8 @@ fn tightest_flow(flows: &[FlowRow]) -> Option<usize>
 
 // The figures of a flow, by its number, and the tightest flow of all. Refused where there is no such flow.
 pub fn verdict(rows: &Rows, flow: usize) -> Result<Verdict, Refusal>
-    ensures answer { result ≡ verdict_of rows.now.items.items flow }
-    ensures tightest { IfOk result (λ v. TightestFlow rows.now.items.items v.tightest) }
+    ensures answer { result ≡ verdict_of rows.now flow }
+    ensures tightest { IfOk result (λ v. TightestFlow rows.now v.tightest) }
 {
     let flows = rows.as_slice();
     let row = flow

@@ -1,3 +1,4 @@
 pub mod Decided
+pub mod Serves
 pub mod Served
 pub mod Smalls

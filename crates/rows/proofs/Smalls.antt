@@ -1,4 +1,4 @@
--- Rows that are small: no row, one row more, and a flow that is not small. Assumes nothing.
+-- Rows that are small: one row more, and a flow that is not small. Assumes nothing.
 use Rattle.std.proofs.Common.{◌≡◌, ℕ, ◌^◌, ◌<◌, false, true, ◌&&◌, ltb, List, [], ◌∷◌, ◌++◌, map, length, get_or, sym, ap, ◌∙◌, subst, inl, inr, arith}
 use Rattle.std.proofs.lemmas.List.{get_or-map, length-map, length_push, get_or_push, get_or_append_left}
 use Rattle.std.proofs.lemmas.Bool.{both_ways, cases_lt, and_parts, ltb-true, lt-ltb}
@@ -6,9 +6,6 @@ use Rattle.analysis.specs.declared.row.Row.{Row}
 use Rattle.rows.specs.declared.flow_row.FlowRow.{FlowRow}
 use Rattle.rows.specs.Blank.{idle}
 use Rattle.rows.specs.Small.{IsSmall, Small}
-
-pub small_none : (rows : List FlowRow) → rows ≡ [] → Small rows
-small_none rows e k d less = absurd (omega (arith, ap length e))
 
 pub small_more : (rows new : List FlowRow) (row : FlowRow) → Small rows → IsSmall row.flow → new ≡ rows ++ (row ∷ []) → Small new
 small_more rows new row before here after k d less =

@@ -1,8 +1,8 @@
 // One flow of a run.
 use analysis::row::Row;
 
-// What a run keeps of a flow.
-#[derive(Clone, Copy)]
+// What a run keeps of a flow; by default, that it has released nothing yet.
+#[derive(Clone, Copy, Default)]
 pub struct Progress {
     // the grants that its open packet still needs, 0 without one
     pub left: u32,

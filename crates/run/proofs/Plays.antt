@@ -4,6 +4,7 @@ use mathlib.Core.List.{reverse-append}
 use Rattle.std.proofs.lemmas.List.{map_push, take_more, length_push}
 use Rattle.calls.specs.declared.event.Call.{Call}
 use Rattle.calls.specs.declared.event.Event.{Event}
+use Rattle.calls.specs.declared.event.Event.TheVariants.{Released, Arbitrated, Injected, Abandoned, Reported, Told}
 use Rattle.calls.specs.declared.record.Record.{Record}
 use Rattle.calls.specs.Events.{call_of}
 use Rattle.timing.specs.Model.{Table}
@@ -12,6 +13,7 @@ use Rattle.history.specs.Counted.{History}
 use Rattle.history.specs.Since.{Since, Lists}
 use Rattle.history.specs.Promise.{Upholds}
 use Rattle.history.specs.Played.{StepsTo, Ran}
+use Rattle.history.proofs.Upheld.{release_upholds, arbitrate_upholds, inject_upholds, abandon_upholds, report_upholds, verdict_upholds}
 
 -- after the first i calls, from a run and a ledger at the start to those now
 pub record SoFar (most : ℕ) (s₀ : State) (k₀ : List Record) (calls : List Call) (i : ℕ) (events : List Event) (s : State) (k : List Record) : Type 0 where
@@ -24,15 +26,24 @@ pub none_yet : (most : ℕ) (s : State) (k : List Record) (calls : List Call) (e
 none_yet most s k calls events none =
     subst (λ (l : List Event). SoFar most s k calls 0 l s k) (sym none) (record { count = refl; all = refl; ran = (refl, refl); since = λ b u l. (u, l) })
 
+-- a call that leads on as it is defined keeps the promise
+step_upholds : (most : ℕ) (e : Event) (s : State) (k : List Record) (s' : State) (k' : List Record) → StepsTo most e s k s' k' → Upholds most e s k s' k'
+step_upholds most (Released i t r) s k s' k' x = release_upholds most s s' k k' i t r x
+step_upholds most (Arbitrated r) s k s' k' x = subst (Upholds most (Arbitrated r) s k s') (sym x.1) (arbitrate_upholds most s s' k r x.0)
+step_upholds most (Injected p r) s k s' k' x = inject_upholds most s s' k k' p r x
+step_upholds most (Abandoned p r) s k s' k' x = subst (Upholds most (Abandoned p r) s k s') (sym x.1) (abandon_upholds most s s' k p r x.0)
+step_upholds most (Reported r) s k s' k' x = report_upholds most s s' k k' r x
+step_upholds most (Told i r) s k s' k' x = subst (Upholds most (Told i r) s k s') (sym x.1) (verdict_upholds most s s' k i r x.0)
+
 newest : (events : List Event) (e : Event) → reverse (events ++ (e ∷ [])) ≡ e ∷ reverse events
 newest events e = reverse-append events (e ∷ [])
 
 module _ (most : ℕ) (s₀ : State) (k₀ : List Record) (calls : List Call) (i : ℕ) (events : List Event) (s : State) (k : List Record) where
   -- one call more
   pub one_more :
-      (e : Event) (s' : State) (k' : List Record) (d : Call) (events' : List Event) → i < length calls → call_of e ≡ get_or calls i d → StepsTo most e s k s' k' → Upholds most e s k s' k' →
+      (e : Event) (s' : State) (k' : List Record) (d : Call) (events' : List Event) → i < length calls → call_of e ≡ get_or calls i d → StepsTo most e s k s' k' →
       events' ≡ events ++ (e ∷ []) → SoFar most s₀ k₀ calls i events s k → SoFar most s₀ k₀ calls (i + 1) events' s' k'
-  one_more e s' k' d events' within call step upholds pushed far =
+  one_more e s' k' d events' within call step pushed far =
       let back = sym (ap reverse pushed ∙ newest events e) in
       record {
         count = ap length pushed ∙ length_push events e ∙ ap (λ n. n + 1) far.count;
@@ -40,7 +51,7 @@ module _ (most : ℕ) (s₀ : State) (k₀ : List Record) (calls : List Call) (i
         ran = subst (λ (h : History). Ran most h s₀ k₀ s' k') back (s, k, far.ran, step);
         since = λ b u l.
             let old = far.since b u l in
-            let new = upholds b (reverse events) old.0 in
+            let new = step_upholds most e s k s' k' step b (reverse events) old.0 in
             subst (λ (h : History). Since most b h s' × Lists b h k') back (new.0, (new.2 old.1).0);
       }
 

@@ -1,5 +1,5 @@
 -- A run, as its calls are defined over it. Assumes nothing.
-use Rattle.std.specs.Prelude.{List, vec_items}
+use Rattle.std.specs.Prelude.{List}
 use Rattle.medium.specs.declared.level.Level.{Level}
 use Rattle.run.specs.declared.run.Run.{Run}
 use Rattle.history.specs.State.{State}
@@ -14,6 +14,6 @@ state_of levels r =
       count = r.count;
       owed = r.owed;
       ended = r.ended;
-      rows = vec_items r.rows.items;
+      rows = r.rows;
       levels = levels r.medium;
     }

@@ -15,4 +15,12 @@ impl Slip {
     {
         self.name
     }
+
+    // The slip is gone, and what it named is left.
+    pub(crate) fn into_name(self) -> SlipName
+        ensures { result ≡ self.name }
+    {
+        let Slip { name } = self;
+        name
+    }
 }

@@ -9,13 +9,9 @@ use rows::rows::Rows;
 
 // Serves each flow in turn, writes the ledger, and answers how many were granted.
 pub fn serve_all(rows: &mut Rows, clock: &Clock, ledger: &mut [Record]) -> usize
-    ensures answer { result ≡ grant_count rows.old.items.items }
-    ensures rows { rows.new.items.items ≡ map served rows.old.items.items }
-    ensures ledger { ledger.new ≡ ledger_after (slot_end clock.now.times clock.now.slot) rows.old.items.items ledger.old }
+    ensures answer { result ≡ grant_count rows.old }
+    ensures rows { rows.new ≡ map served rows.old }
+    ensures ledger { ledger.new ≡ ledger_after (slot_end clock.now.times clock.now.slot) rows.old ledger.old }
 {
-    let mut grants = 0;
-    for k in 0..rows.len() {
-        grants += rows.serve(k, clock, ledger);
-    }
-    grants
+    rows.serve_all(clock, ledger)
 }

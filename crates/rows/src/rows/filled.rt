@@ -2,6 +2,7 @@
 ghost use Rattle.std.specs.Prelude.{◌≡◌, ◌^◌, ◌&&◌, [], length, IfOk, nat_lt};
 ghost use Rattle.rows.specs.Blank.{idle};
 ghost use Rattle.rows.specs.Filling.{Fills};
+ghost use Rattle.rows.specs.Small.{Small};
 
 use super::Rows;
 use crate::flow_row::{FlowRow, Progress};
@@ -14,14 +15,7 @@ fn idle(flow: Row) -> FlowRow
 {
     FlowRow {
         flow,
-        progress: Progress {
-            left: 0,
-            denials: 0,
-            place: 0,
-            last: None,
-            wanted: false,
-            granted: false,
-        },
+        progress: Progress::default(),
     }
 }
 
@@ -35,7 +29,7 @@ fn is_small(flow: &Row) -> bool
 impl Rows {
     // No flows.
     pub fn new(heap: Global) -> Rows
-        ensures { result.items.items ≡ [] }
+        ensures { result ≡ [] }
     {
         Rows {
             items: Vec::new(heap),
@@ -58,14 +52,15 @@ impl Rows {
 
     // How many flows there are.
     pub fn len(&self) -> usize
-        ensures { result ≡ length self.now.items.items }
+        ensures { result ≡ length self.now }
     {
         self.items.len()
     }
 
     // All of them, to be read.
     pub fn as_slice(&self) -> &[FlowRow]
-        ensures { result.now ≡ self.now.items.items }
+        ensures rows { result.now ≡ self.now }
+        ensures small { Small result.now }
     {
         self.items.as_slice()
     }

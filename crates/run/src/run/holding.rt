@@ -1,5 +1,6 @@
 // What a run holds.
-ghost use Rattle.std.specs.Prelude.{◌≡◌, ◌&&◌, length};
+ghost use Rattle.std.specs.Prelude.{◌≡◌, ◌&&◌, length, if◌then◌else◌};
+ghost use Rattle.std.specs.Option.{option_copied};
 ghost use Rattle.medium.specs.Levels.{read_at};
 ghost use Rattle.history.specs.State.{known, row_of};
 ghost use Rattle.run.specs.Seen.{state_of};
@@ -7,6 +8,7 @@ ghost use Rattle.run.specs.Seen.{state_of};
 use super::Run;
 use medium::level::Level;
 use medium::medium::Medium;
+use rows::flow_row::FlowRow;
 
 impl<M: Medium> Run<M> {
     // How many flows there are.
@@ -14,6 +16,14 @@ impl<M: Medium> Run<M> {
         ensures { result ≡ length (state_of M.levels self.now).rows }
     {
         self.rows.len()
+    }
+
+    // The row of a flow, if there is a flow with this number.
+    pub(super) fn row(&self, flow: usize) -> Option<&FlowRow>
+        ensures { option_copied result ≡ (if known (state_of M.levels self.now) flow then Some (row_of (state_of M.levels self.now) flow) else None) }
+    {
+        let place = flow.checked_sub(1)?;
+        self.rows.as_slice().get(place)
     }
 
     // The slots that were injected since the load.
@@ -41,14 +51,14 @@ impl<M: Medium> Run<M> {
     pub fn wanted(&self, flow: usize) -> bool
         ensures { result ≡ (known (state_of M.levels self.now) flow && (row_of (state_of M.levels self.now) flow).progress.wanted) }
     {
-        self.knows(flow) && self.rows.as_slice()[flow - 1].progress.wanted
+        self.row(flow).is_some_and(|row| row.progress.wanted)
     }
 
     // Whether a flow was granted in the slot last arbitrated.
     pub fn granted(&self, flow: usize) -> bool
         ensures { result ≡ (known (state_of M.levels self.now) flow && (row_of (state_of M.levels self.now) flow).progress.granted) }
     {
-        self.knows(flow) && self.rows.as_slice()[flow - 1].progress.granted
+        self.row(flow).is_some_and(|row| row.progress.granted)
     }
 
     // The level of interval k of the medium, from 0, or none where it was not opened.

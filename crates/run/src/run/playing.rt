@@ -3,7 +3,6 @@ ghost use Rattle.std.specs.Prelude.{◌≡◌, ◌≤◌, false, List, [], map, 
 ghost use Rattle.calls.specs.declared.record.Record.{Record as Entry};
 ghost use Rattle.calls.specs.Events.{call_of};
 ghost use Rattle.history.specs.Begun.{run_refusal, BuildsRun};
-ghost use Rattle.history.specs.Promise.{Upholds};
 ghost use Rattle.history.specs.Played.{StepsTo, Ran, Played};
 ghost use Rattle.history.specs.Since.{Since, Lists};
 ghost use Rattle.timing.specs.Model.{Table};
@@ -14,74 +13,53 @@ use crate::slip::Slip;
 use calls::event::{Call, Event};
 use calls::load_refusal::LoadRefusal;
 use calls::record::Record;
+use calls::refusal::Refusal;
 use calls::slip_name::SlipName;
 use fabric::fabric::Fabric;
 use medium::medium::Medium;
 use std::alloc::Global;
 
+// A refusal, without the slip that it hands back.
+fn without_slip(refused: (Refusal, Slip)) -> Refusal
+    ensures { result ≡ refused.0 }
+{
+    let (refusal, Slip { name: _ }) = refused;
+    refusal
+}
+
 impl<M: Medium> Run<M> {
     // Arbitrates, and keeps of the slip what it names.
     fn play_arbitrate(&mut self) -> Event
         ensures step { (k : List Entry) → StepsTo M.most result (state_of M.levels self.old) k (state_of M.levels self.new) k }
-        ensures promise { (k : List Entry) → Upholds M.most result (state_of M.levels self.old) k (state_of M.levels self.new) k }
         ensures call { call_of result ≡ Call.Arbitrate }
     {
-        match self.arbitrate() {
-            Ok(slip) => {
-                let Slip { name } = slip;
-                Event::Arbitrated { answer: Ok(name) }
-            }
-            Err(refusal) => Event::Arbitrated {
-                answer: Err(refusal),
-            },
+        Event::Arbitrated {
+            answer: self.arbitrate().map(Slip::into_name),
         }
     }
 
     // Hands in a slip that names what is given.
     fn play_inject(&mut self, slip: SlipName, ledger: &mut [Record]) -> Event
         ensures step { StepsTo M.most result (state_of M.levels self.old) ledger.old (state_of M.levels self.new) ledger.new }
-        ensures promise { Upholds M.most result (state_of M.levels self.old) ledger.old (state_of M.levels self.new) ledger.new }
         ensures call { call_of result ≡ Call.Inject slip }
     {
-        match self.inject(Slip { name: slip }, ledger) {
-            Ok(grants) => Event::Injected {
-                slip,
-                answer: Ok(grants),
-            },
-            Err((refusal, back)) => {
-                let Slip { name: _ } = back;
-                Event::Injected {
-                    slip,
-                    answer: Err(refusal),
-                }
-            }
-        }
+        let answer = self
+            .inject(Slip { name: slip }, ledger)
+            .map_err(without_slip);
+        Event::Injected { slip, answer }
     }
 
     fn play_abandon(&mut self, slip: SlipName) -> Event
         ensures step { (k : List Entry) → StepsTo M.most result (state_of M.levels self.old) k (state_of M.levels self.new) k }
-        ensures promise { (k : List Entry) → Upholds M.most result (state_of M.levels self.old) k (state_of M.levels self.new) k }
         ensures call { call_of result ≡ Call.Abandon slip }
     {
-        match self.abandon(Slip { name: slip }) {
-            Ok(()) => Event::Abandoned {
-                slip,
-                answer: Ok(()),
-            },
-            Err((refusal, back)) => {
-                let Slip { name: _ } = back;
-                Event::Abandoned {
-                    slip,
-                    answer: Err(refusal),
-                }
-            }
-        }
+        let answer = self.abandon(Slip { name: slip }).map_err(without_slip);
+        Event::Abandoned { slip, answer }
     }
 
     // Makes one call, and answers it with its answer.
     fn play_call(&mut self, call: Call, ledger: &mut [Record]) -> Event
         ensures step { StepsTo M.most result (state_of M.levels self.old) ledger.old (state_of M.levels self.new) ledger.new }
-        ensures promise { Upholds M.most result (state_of M.levels self.old) ledger.old (state_of M.levels self.new) ledger.new }
         ensures call { call_of result ≡ call }
     {
         match call {

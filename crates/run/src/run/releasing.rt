@@ -3,7 +3,6 @@ ghost use Rattle.std.specs.Prelude.{◌≡◌};
 ghost use Rattle.calls.specs.declared.event.Event.TheVariants.{Released};
 ghost use Rattle.calls.specs.Events.{first_refusal};
 ghost use Rattle.rows.specs.Times.{soon};
-ghost use Rattle.history.specs.State.{known};
 ghost use Rattle.history.specs.Steps.{unless, release_checks, Releases};
 ghost use Rattle.history.specs.Promise.{Upholds};
 ghost use Rattle.run.specs.Seen.{state_of};
@@ -18,20 +17,12 @@ use rows::flow_row::FlowRow;
 fn too_soon(row: &FlowRow, cycle: u64) -> bool
     ensures { result ≡ soon row.now.progress.last row.now.flow.«record».separation cycle }
 {
-    match row.progress.last {
-        None => false,
-        Some(last) => u128::from(cycle) < u128::from(last) + u128::from(row.flow.record.separation),
-    }
+    row.progress.last.is_some_and(|last| {
+        u128::from(cycle) < u128::from(last) + u128::from(row.flow.record.separation)
+    })
 }
 
 impl<M: Medium> Run<M> {
-    // Whether there is a flow with this number.
-    pub(super) fn knows(&self, flow: usize) -> bool
-        ensures { result ≡ known (state_of M.levels self.now) flow }
-    {
-        (1 <= flow) & (flow <= self.rows.len())
-    }
-
     // The checks of a release in their order, with a ledger of this length.
     fn check_release(&self, flow: usize, cycle: u64, len: usize) -> Result<(), Refusal>
         ensures { result ≡ unless (first_refusal (release_checks (state_of M.levels self.now) len flow cycle)) tt }
@@ -42,16 +33,15 @@ impl<M: Medium> Run<M> {
         if self.owed {
             return Err(Refusal::Owed);
         }
-        if !self.knows(flow) {
+        let Some(row) = self.row(flow) else {
             return Err(Refusal::NoFlow);
-        }
+        };
         if self.clock.late(flow, cycle) {
             return Err(Refusal::Late);
         }
         if self.clock.ahead(flow, cycle) {
             return Err(Refusal::Ahead);
         }
-        let row = &self.rows.as_slice()[flow - 1];
         if too_soon(row, cycle) {
             return Err(Refusal::Soon);
         }

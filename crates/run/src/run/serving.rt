@@ -3,7 +3,7 @@ ghost use Rattle.std.specs.Prelude.{◌≡◌, List};
 ghost use Rattle.calls.specs.declared.event.Event.TheVariants.{Arbitrated, Injected, Abandoned};
 ghost use Rattle.calls.specs.declared.record.Record.{Record as Entry};
 ghost use Rattle.history.specs.State.{names};
-ghost use Rattle.history.specs.Steps.{Arbitrates, Injects, Abandons};
+ghost use Rattle.history.specs.Steps.{slip_of, Arbitrates, Injects, Abandons};
 ghost use Rattle.history.specs.Promise.{Upholds};
 ghost use Rattle.run.specs.Seen.{state_of};
 ghost use Rattle.run.specs.Slips.{named, bare, HandedBack};
@@ -18,6 +18,16 @@ use slots::arbitration::decide;
 use slots::injection::serve_all;
 
 impl<M: Medium> Run<M> {
+    // What a slip for the slot names.
+    fn slip_name(&self) -> SlipName
+        ensures { result ≡ slip_of (state_of M.levels self.now) }
+    {
+        SlipName {
+            number: self.number,
+            slot: self.clock.slot,
+        }
+    }
+
     fn arbitrate_step(&mut self) -> Result<Slip, Refusal>
         ensures { Arbitrates M.most (state_of M.levels self.old) (named result) (state_of M.levels self.new) }
     {
@@ -32,19 +42,16 @@ impl<M: Medium> Run<M> {
         }
         decide(&mut self.medium, &mut self.rows);
         self.owed = true;
-        let name = SlipName {
-            number: self.number,
-            slot: self.clock.slot,
-        };
-        Ok(Slip { name })
+        Ok(Slip {
+            name: self.slip_name(),
+        })
     }
 
     // Whether a slip names this run and the slot that awaits its injection.
     fn awaits(&self, slip: &Slip) -> bool
         ensures { result ≡ names (state_of M.levels self.now) slip.now.name }
     {
-        let name = slip.name;
-        self.owed & ((name.number == self.number) & (name.slot == self.clock.slot))
+        self.owed && slip.name == self.slip_name()
     }
 
     fn inject_step(&mut self, slip: Slip, ledger: &mut [Record]) -> Result<usize, (Refusal, Slip)>

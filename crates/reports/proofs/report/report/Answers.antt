@@ -12,7 +12,7 @@ returns-clause-counts c =
 
 pub returns-clause-tightest : goal.returns-clause-tightest
 returns-clause-tightest c =
-    let rows = c.args.rows.now.items.items in
+    let rows = c.args.rows.now in
     let k = take c.args.count c.args.ledger.now in
     let is : c.tell.result ≡ told rows k = search rules in
     subst (λ (t : Report). TightestRecord rows k t.tightest) (sym is) (record_law rows k)

@@ -5,6 +5,6 @@ use Rattle.reports.proofs.verdict.verdict.Goals as goal
 
 pub returns-clause-tightest : goal.returns-clause-tightest
 returns-clause-tightest c =
-    let rows = c.args.rows.now.items.items in
+    let rows = c.args.rows.now in
     let is : c.tightest_flow.result ≡ tightest_flow rows = search rules in
     subst (TightestFlow rows) (sym is) (flow_law rows)

@@ -1,23 +1,18 @@
-use Rattle.std.proofs.Common.{length, vec_items, sym, ap, ◌∙◌, subst, arith}
-use Rattle.rows.specs.Small.{Small}
-use Rattle.slots.proofs.Turns.{level_count, turn_none, turn_more, turn_all}
+use Rattle.std.proofs.Common.{List, length, get_or, take, ap, ◌∙◌, arith}
+use Rattle.std.proofs.lemmas.List.{get_or_read}
+use Rattle.rows.specs.declared.flow_row.FlowRow.{FlowRow}
+use Rattle.rows.specs.Blank.{no_row}
+use Rattle.slots.proofs.Turns.{turn_more, turn_all}
 use Rattle.slots.proofs.arbitration.decide.Goals as goal
-
-pub loop-k-init : goal.loop-k-init
-loop-k-init g c = turn_none g.M.Medium.most _ _ c.clear.ensures
-
-pub run_interval-granted-requires : goal.run_interval-granted-requires
-run_interval-granted-requires g c =
-    let rs = vec_items c.loop-k.rows.items in
-    record {
-      within = omega (arith, ap length c.as_slice.ensures);
-      before = ap length c.loop-k.invariant.2 ∙ level_count g.M.Medium.most c.loop-k.k rs (omega arith);
-      small = subst Small (sym c.as_slice.ensures) c.loop-k.rows.small;
-    }
 
 pub loop-k-preserved : goal.loop-k-preserved
 loop-k-preserved g c =
-    turn_more g.M.Medium.most c.loop-k.k (vec_items c.loop-k.rows.items) _ _ _ (g.M.Medium.levels c.loop-k.medium) _ _ (omega arith) c.as_slice.ensures c.run_interval-granted.ensures.answer
+    let k = c.loop-k.k in
+    let flows = c.as_slice-flows.result.now in
+    let same = c.as_slice-flows.ensures.rows in
+    turn_more g.M.Medium.most k c.loop-k.rows _ _ _ _ (g.M.Medium.levels c.loop-k.medium) _ _ (omega arith) (ap (take k) same)
+    (get_or_read flows k c.index-flows-k.result (omega (arith, ap length same)) c.index-flows-k.is no_row ∙ ap (λ (rs : List FlowRow). get_or rs k no_row) same)
+    c.run_interval-granted.ensures.answer
     c.run_interval-granted.ensures.after
     c.mark.ensures
     c.loop-k.invariant

@@ -9,8 +9,8 @@ loop-h-init g c = refl
 
 pub loop-h-preserved : goal.loop-h-preserved
 loop-h-preserved g c =
-    press_next (g.M.Medium.levels c.args.medium.now) _ _ c.args.above.now c.args.rows.now c.loop-h.h c.from.result c.index-rows-h.result _ c.requires.small (omega arith)
-    c.index-rows-h.is
+    press_next (g.M.Medium.levels c.args.medium.now) _ _ c.args.above.now c.args.before.now c.loop-h.h c.from.result c.index-before-h.result _ c.requires (omega arith)
+    c.index-before-h.is
     c.from.ensures
     c.denies-pulls.ensures
     c.loop-h.invariant

@@ -7,4 +7,4 @@ use Rattle.slots.proofs.arbitration.press.Given as goal
 abbrev pub invariant-loop-h : goal.invariant-loop-h
 invariant-loop-h g l =
     let ls = g.M.Medium.levels in
-    ls l.medium ≡ pressed (ls l.initial.medium) (blocked l.above (grants_of l.rows) l.h)
+    ls l.medium ≡ pressed (ls l.initial.medium) (blocked l.above (grants_of l.before) l.h)
