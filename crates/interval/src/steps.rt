@@ -19,11 +19,7 @@ pub fn pull_if<M: Medium>(medium: &mut M, node: usize, pulls: bool) -> Result<()
 pub fn is_quiet<M: Medium>(medium: &M, k: usize) -> bool
     ensures { result ≡ quiet_at (read_at (M.levels medium.now) k) }
 {
-    match medium.read(k) {
-        Some(Level::Recessive) => true,
-        Some(Level::Dominant) => false,
-        None => false,
-    }
+    medium.read(k) == Some(Level::Recessive)
 }
 
 // How many intervals are open, found by reading. Who counts them while opening needs no such search.
@@ -31,10 +27,7 @@ pub fn count<M: Medium>(medium: &M) -> usize
     ensures { result ≡ length (M.levels medium.now) }
 {
     let limit = medium.limit();
-    for k in 0..limit {
-        if medium.read(k).is_none() {
-            return k;
-        }
-    }
-    limit
+    (0..limit)
+        .find(|k| medium.read(*k).is_none())
+        .unwrap_or(limit)
 }

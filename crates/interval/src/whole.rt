@@ -10,7 +10,7 @@ use medium::fault::MediumFault;
 use medium::level::Level;
 use medium::medium::Medium;
 
-// A node, and whether it pulls.
+// A node, and whether it pulls: every source has a node and is asked in turn, so an optional node would lose which one keeps still.
 #[derive(Clone, Copy, PartialEq, Eq, Debug)]
 pub struct Puller {
     pub node: usize,
@@ -18,6 +18,7 @@ pub struct Puller {
 }
 
 // Each of the pullers in turn pulls the last interval or keeps still. A node that there is not is refused, and changes nothing.
+#[tactic(auto, using(crate::proofs::OneInterval::pull_next))]
 fn pull_all<M: Medium>(medium: &mut M, pullers: &[Puller])
     ensures { M.levels medium.new ≡ pressed (M.levels medium.old) (some_pull pullers.now) }
 {

@@ -6,22 +6,19 @@ use medium::bank::NodeBank;
 use medium::line::Line;
 use medium::medium::Medium;
 
-mod drive;
-mod edges;
+mod bench;
 mod naive;
 mod script;
 mod tally;
 
-use tally::Tally;
+use bench::Bench;
 
 // Every test of one medium. Fails where anything differed.
-fn test<M: Medium>(rt: &HostRuntime, name: &str, medium: &mut M) -> anyhow::Result<()> {
-    let mut tally = Tally::new();
-    drive::follow_script(rt.alloc(), medium, &mut tally)?;
-    edges::at_the_limit(medium, &mut tally);
-    edges::at_the_nodes(medium, &mut tally);
-    edges::without_intervals(medium, &mut tally);
-    edges::after_a_clear(medium, &mut tally);
+fn test<M: Medium + Drop>(rt: &HostRuntime, name: &str, medium: M) -> anyhow::Result<()> {
+    let mut bench = Bench::new(rt.alloc(), medium);
+    bench.follow_script()?;
+    bench.try_edges();
+    let tally = bench.tally();
     println!(rt; "{name}\n{tally}")?;
     if tally.mismatches() > 0 {
         return Err(anyhow!("a medium differs from the list"));
@@ -30,6 +27,6 @@ fn test<M: Medium>(rt: &HostRuntime, name: &str, medium: &mut M) -> anyhow::Resu
 }
 
 fn main(rt: HostRuntime) -> anyhow::Result<()> {
-    test(&rt, "line", &mut Line::new())?;
-    test(&rt, "node bank", &mut NodeBank::new())
+    test(&rt, "line", Line::new())?;
+    test(&rt, "node bank", NodeBank::new())
 }

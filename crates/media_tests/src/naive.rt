@@ -1,5 +1,6 @@
-// A list of levels kept in the plainest way, with the refusals as bare numbers: written apart from every medium.
+// A list of levels kept in the plainest way: written apart from every medium.
 use interval::whole::Puller;
+use medium::fault::MediumFault;
 use medium::level::Level;
 use std::alloc::{AllocError, Global};
 
@@ -23,25 +24,26 @@ impl Naive {
         self.levels.clear();
     }
 
-    // The number of the refusal, if it is refused.
-    pub fn open(&mut self) -> Result<Option<u8>, AllocError> {
+    // One more level, or the refusal.
+    fn add(&mut self, level: Level) -> Result<Result<(), MediumFault>, AllocError> {
         if self.levels.len() >= 128 {
-            return Ok(Some(11));
+            return Ok(Err(MediumFault::Full));
         }
-        self.levels.push(Level::Recessive)?;
-        Ok(None)
+        self.levels.push(level)?;
+        Ok(Ok(()))
     }
 
-    pub fn pull(&mut self, node: usize) -> Option<u8> {
-        let count = self.levels.len();
-        if count == 0 {
-            return Some(12);
-        }
+    pub fn open(&mut self) -> Result<Result<(), MediumFault>, AllocError> {
+        self.add(Level::Recessive)
+    }
+
+    pub fn pull(&mut self, node: usize) -> Result<(), MediumFault> {
+        let last = self.levels.last_mut().ok_or(MediumFault::Closed)?;
         if node > 255 {
-            return Some(13);
+            return Err(MediumFault::NoNode);
         }
-        self.levels[count - 1] = Level::Dominant;
-        None
+        *last = Level::Dominant;
+        Ok(())
     }
 
     pub fn read(&self, k: usize) -> Option<Level> {
@@ -53,17 +55,10 @@ impl Naive {
     }
 
     // A whole interval: dominant where some puller pulls and is at most 255.
-    pub fn interval(&mut self, pullers: &[Puller]) -> Result<Option<u8>, AllocError> {
-        if self.levels.len() >= 128 {
-            return Ok(Some(11));
-        }
-        let mut level = Level::Recessive;
-        for puller in pullers {
-            if puller.pulls && puller.node <= 255 {
-                level = Level::Dominant;
-            }
-        }
-        self.levels.push(level)?;
-        Ok(None)
+    pub fn interval(&mut self, pullers: &[Puller]) -> Result<Result<(), MediumFault>, AllocError> {
+        let pulled = pullers
+            .iter()
+            .any(|puller| puller.pulls && puller.node <= 255);
+        self.add(Level::from(pulled))
     }
 }

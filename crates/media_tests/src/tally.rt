@@ -1,16 +1,16 @@
 // What the tests did, by counts.
 ghost use Rattle.std.specs.Prelude.{◌≡◌};
 
+use crate::script::Call;
+use medium::fault::MediumFault;
 use std::fmt;
 
-// The calls of a script.
-#[derive(Clone, Copy, Drop)]
-pub enum Kind {
-    Clear,
-    Open,
-    Pull,
-    Read,
-    Interval,
+// What is compared.
+#[derive(Clone, Copy)]
+pub enum Check {
+    Answer,
+    Level,
+    Edge,
 }
 
 #[derive(Drop)]
@@ -20,8 +20,9 @@ pub struct Tally {
     pulls: u64,
     reads: u64,
     intervals: u64,
-    // refusals 11, 12 and 13
-    refused: [u64; 3],
+    full: u64,
+    closed: u64,
+    no_node: u64,
     answers: u64,
     levels: u64,
     edges: u64,
@@ -29,6 +30,11 @@ pub struct Tally {
     pulled: u64,
     left: u64,
     mismatches: u64,
+}
+
+// Counts one more where something happened.
+fn count(counter: &mut u64, happened: bool) {
+    *counter = counter.saturating_add(u64::from(happened));
 }
 
 impl Tally {
@@ -39,7 +45,9 @@ impl Tally {
             pulls: 0,
             reads: 0,
             intervals: 0,
-            refused: [0; 3],
+            full: 0,
+            closed: 0,
+            no_node: 0,
             answers: 0,
             levels: 0,
             edges: 0,
@@ -49,64 +57,54 @@ impl Tally {
         }
     }
 
-    pub fn called(&mut self, kind: Kind) {
-        match kind {
-            Kind::Clear => self.clears = self.clears.saturating_add(1),
-            Kind::Open => self.opens = self.opens.saturating_add(1),
-            Kind::Pull => self.pulls = self.pulls.saturating_add(1),
-            Kind::Read => self.reads = self.reads.saturating_add(1),
-            Kind::Interval => self.intervals = self.intervals.saturating_add(1),
-        }
+    // Counts a call of a script.
+    pub fn called(&mut self, call: &Call) {
+        let counter = match call {
+            Call::Clear => &mut self.clears,
+            Call::Open => &mut self.opens,
+            Call::Pull(_) => &mut self.pulls,
+            Call::Read(_) => &mut self.reads,
+            Call::Interval(_) => &mut self.intervals,
+        };
+        count(counter, true);
     }
 
-    // Counts a refusal by its number. There are only 11, 12 and 13.
-    pub fn refused(&mut self, number: u8) {
-        self.expect(number >= 11 && number <= 13);
-        if number >= 11 && number <= 13 {
-            let at = usize::from(number) - 11;
-            self.refused[at] = self.refused[at].saturating_add(1);
-        }
+    // Counts a refusal.
+    pub fn refused(&mut self, fault: MediumFault) {
+        let counter = match fault {
+            MediumFault::Full => &mut self.full,
+            MediumFault::Closed => &mut self.closed,
+            MediumFault::NoNode => &mut self.no_node,
+        };
+        count(counter, true);
     }
 
-    // Counts the comparison of an answer.
-    pub fn answer(&mut self, same: bool) {
-        self.answers = self.answers.saturating_add(1);
-        self.expect(same);
-    }
-
-    // Counts the comparison of a level.
-    pub fn level(&mut self, same: bool) {
-        self.levels = self.levels.saturating_add(1);
-        self.expect(same);
-    }
-
-    // Counts the check of an edge.
-    pub fn edge(&mut self, holds: bool) {
-        self.edges = self.edges.saturating_add(1);
+    // Counts a comparison.
+    pub fn compared(&mut self, check: Check, holds: bool) {
+        let counter = match check {
+            Check::Answer => &mut self.answers,
+            Check::Level => &mut self.levels,
+            Check::Edge => &mut self.edges,
+        };
+        count(counter, true);
         self.expect(holds);
     }
 
     // Counts a pull that was to be seen before a clear.
     pub fn before_clear(&mut self, seen: bool) {
-        if seen {
-            self.pulled = self.pulled.saturating_add(1);
-        }
+        count(&mut self.pulled, seen);
         self.expect(seen);
     }
 
     // Counts a pull that was not to be seen after a clear.
     pub fn after_clear(&mut self, seen: bool) {
-        if seen {
-            self.left = self.left.saturating_add(1);
-        }
+        count(&mut self.left, seen);
         self.expect(!seen);
     }
 
     // Counts a mismatch where something does not hold.
-    pub fn expect(&mut self, holds: bool) {
-        if !holds {
-            self.mismatches = self.mismatches.saturating_add(1);
-        }
+    fn expect(&mut self, holds: bool) {
+        count(&mut self.mismatches, !holds);
     }
 
     pub fn mismatches(&self) -> u64
@@ -125,8 +123,13 @@ impl fmt::Display for Tally {
         )?;
         write!(
             f,
-            "  refused: 11 {}, 12 {}, 13 {}\n",
-            self.refused[0], self.refused[1], self.refused[2]
+            "  refused: {} {}, {} {}, {} {}\n",
+            MediumFault::Full.number(),
+            self.full,
+            MediumFault::Closed.number(),
+            self.closed,
+            MediumFault::NoNode.number(),
+            self.no_node
         )?;
         write!(
             f,

@@ -1,4 +1,3 @@
+pub mod LevelLists
 pub mod Refusals
-pub mod Fronts
-pub mod SetBits
 pub mod NodePulls

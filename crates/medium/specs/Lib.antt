@@ -1,5 +1,3 @@
 pub mod Levels
 pub mod Faults
-pub mod Lines
 pub mod Pulls
-pub mod LevelLists

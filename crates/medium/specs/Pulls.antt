@@ -6,7 +6,8 @@
 --   pulled_under ws k n   one of the first n nodes pulled interval k
 --   pulled_at ws k        some node pulled interval k
 --   bank_levels ws n      the levels of the first n intervals
-use Rattle.std.specs.Prelude.{ℕ, zero, suc, ◌+◌, ◌*◌, ◌/◌, ◌%◌, ◌^◌, Bool, false, ◌||◌, List, ◌==◌, bit_or, slice_index, slice_set}
+use Rattle.std.specs.Prelude.{ℕ, ◌+◌, ◌*◌, ◌/◌, ◌%◌, ◌^◌, Bool, List, ◌==◌, bit_or, slice_index, slice_set}
+use Rattle.std.specs.List.{list_any, range_with_len}
 use Rattle.medium.specs.declared.level.Level.{Level}
 use Rattle.medium.specs.Levels.{levels_of}
 
@@ -23,8 +24,7 @@ abbrev pub marked : List ℕ → ℕ → ℕ → List ℕ
 marked ws a k = slice_set ws (word_of a k) (bit_or (slice_index ws (word_of a k)) (2 ^ (k % 64)))
 
 unfoldable pub pulled_under : List ℕ → ℕ → ℕ → Bool
-pulled_under ws k zero = false
-pulled_under ws k (suc n) = pulled_under ws k n || pulled_by ws n k
+pulled_under ws k n = list_any (λ a. pulled_by ws a k) (range_with_len 0 n)
 
 abbrev pub pulled_at : List ℕ → ℕ → Bool
 pulled_at ws k = pulled_under ws k 256

@@ -1,9 +1,9 @@
 // The node bank: each node's own pulls.
-ghost use Rattle.std.specs.Prelude.{◌≡◌, ℕ, ◌+◌, ◌<◌, ◌≤◌, false, [], if◌then◌else◌, Some, None, nat_lt};
+ghost use Rattle.std.specs.Prelude.{◌≡◌, ℕ, ◌<◌, ◌≤◌, false, []};
 ghost use Rattle.medium.specs.Levels.{level_of};
 ghost use Rattle.medium.specs.Pulls.{bank_levels, pulled_at};
 ghost use Rattle.std.proofs.Common.{arith};
-ghost use Rattle.medium.specs.LevelLists.{levels_length};
+ghost use Rattle.std.proofs.lemmas.List.FromFn.{length-map-range_with_len};
 
 use crate::checks::{check_open, check_pull};
 use crate::fault::MediumFault;
@@ -12,6 +12,7 @@ use crate::medium::Medium;
 use crate::words::Words;
 
 // Past the count no node has a bit, so that the next interval opens recessive.
+// A rule of the project: the words and the count of the intervals opened, in fixed memory.
 #[derive(Drop)]
 pub struct NodeBank {
     words: Words,
@@ -21,6 +22,7 @@ pub struct NodeBank {
 }
 
 impl NodeBank {
+    // A rule of the project: each medium states its limit as this constant, and `limit` reads it.
     pub const LIMIT: usize = 128;
 
     // A node bank without intervals.
@@ -32,26 +34,6 @@ impl NodeBank {
             count: 0,
         }
     }
-
-    // One more interval, which no node has pulled.
-    fn append(&mut self)
-        requires { self.old.count < 128 }
-        ensures words { self.new.words.bits ≡ self.old.words.bits }
-        ensures count { self.new.count ≡ self.old.count + 1 }
-    {
-        self.count += 1;
-    }
-
-    // The level of an interval that was opened.
-    fn level(&self, k: usize) -> Option<Level>
-        ensures { result ≡ (if nat_lt k self.now.count then Some (level_of (pulled_at self.now.words.bits k)) else None) }
-    {
-        if k < self.count {
-            Some(Level::of(self.words.any(k)))
-        } else {
-            None
-        }
-    }
 }
 
 impl Medium for NodeBank {
@@ -59,7 +41,7 @@ impl Medium for NodeBank {
 
     ghost most = { 128 };
 
-    ghost within = { λ m. omega (arith, levels_length (pulled_at m.words.bits) m.count) };
+    ghost within = { λ m. omega (arith, length-map-range_with_len (λ k. level_of (pulled_at m.words.bits k)) 0 m.count) };
 
     fn limit(&self) -> usize {
         NodeBank::LIMIT
@@ -72,7 +54,7 @@ impl Medium for NodeBank {
 
     fn open(&mut self) -> Result<(), MediumFault> {
         check_open(self.count, NodeBank::LIMIT)?;
-        self.append();
+        self.count += 1;
         Ok(())
     }
 
@@ -83,6 +65,6 @@ impl Medium for NodeBank {
     }
 
     fn read(&self, k: usize) -> Option<Level> {
-        self.level(k)
+        (k < self.count).then(|| Level::from(self.words.any(k)))
     }
 }

@@ -8,11 +8,11 @@ use std::fmt;
 #[derive(Clone, Copy, PartialEq, Eq, Debug)]
 pub enum MediumFault {
     // An interval is opened at the limit.
-    Full,
+    Full = 11,
     // An interval is pulled where none is open.
-    Closed,
+    Closed = 12,
     // A node above 255 pulls.
-    NoNode,
+    NoNode = 13,
 }
 
 impl MediumFault {
@@ -20,11 +20,7 @@ impl MediumFault {
     pub fn number(self) -> u8
         ensures { result ≡ number_of self }
     {
-        match self {
-            MediumFault::Full => 11,
-            MediumFault::Closed => 12,
-            MediumFault::NoNode => 13,
-        }
+        self as u8
     }
 
     // What was refused, and what would be accepted.

@@ -42,11 +42,6 @@ impl Words {
         requires { k < 128 }
         ensures { result ≡ pulled_at self.now.bits k }
     {
-        for node in 0..NODES {
-            if self.pulled(node, k) {
-                return true;
-            }
-        }
-        false
+        (0..NODES).any(|node| self.pulled(node, k))
     }
 }

@@ -1,17 +1,12 @@
-use Rattle.std.proofs.Common.{◌||◌, sym, ap, ◌∙◌, arith}
+use Rattle.std.proofs.Common.{rules, refl, ◌∙◌}
+use Rattle.std.proofs.lemmas.Iterator.{YieldsList-from_range}
+use Rattle.std.proofs.lemmas.Iterator.Search.{any_from_yields_List}
 use Rattle.medium.specs.Pulls.{pulled_by}
-use Rattle.medium.proofs.NodePulls.{under_none, under_more, under_from}
+use Rattle.medium.proofs.NodePulls.{under_any}
 use Rattle.medium.proofs.words.Words.any.Goals as goal
 
-pub loop-node-init : goal.loop-node-init
-loop-node-init c = under_none _ _
-
-pub returns-then-pulled : goal.returns-then-pulled
-returns-then-pulled c = sym (under_from c.args.self.now.bits c.args.k 256 c.loop-node.node (omega arith) (sym c.if-pulled.ensures))
-
-pub loop-node-preserved : goal.loop-node-preserved
-loop-node-preserved c =
+pub returns : goal.returns
+returns c =
     let ws = c.args.self.now.bits in
     let k = c.args.k in
-    let n = c.loop-node.node in
-    under_more ws k n ∙ ap (λ b. b || pulled_by ws n k) c.loop-node.invariant ∙ sym c.if-pulled.ensures
+    any_from_yields_List (λ a. pulled_by ws a k) _ _ _ c.any.ensures.ran (YieldsList-from_range 0 256 256 refl refl) (λ x b q h. search rules) ∙ under_any ws k 256

@@ -8,12 +8,15 @@ use Rattle.std.proofs.lemmas.Bool.Decides.{nat_tests}
 use Rattle.medium.specs.declared.level.Level.TheVariants.{Recessive, Dominant}
 use Rattle.medium.specs.Levels.{level_of, levels_of, read_at}
 
+-- As many levels as intervals.
 pub levels_length : (f : ℕ → Bool) (n : ℕ) → length (levels_of f n) ≡ n
 levels_length f n = length-map-range_with_len (λ k. level_of (f k)) 0 n
 
+-- The level of each.
 levels_at : (f : ℕ → Bool) (n i : ℕ) → i < n → slice_index_or (levels_of f n) i Recessive ≡ level_of (f i)
 levels_at f n i l = get_or-map-range_with_len (λ k. level_of (f k)) 0 n i i Recessive l (omega arith)
 
+-- A read of what the function tells is a read of the list.
 pub levels_read : (f : ℕ → Bool) (n k : ℕ) → cond (nat_lt k n) (Some (level_of (f k))) None ≡ read_at (levels_of f n) k
 levels_read f n k =
     let wide = levels_length f n in
