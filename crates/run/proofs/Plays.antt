@@ -1,5 +1,5 @@
 -- Calls that are made in turn. Assumes nothing.
-use Rattle.std.proofs.Common.{◌≡◌, ℕ, ◌+◌, ◌<◌, ◌≤◌, List, [], ◌∷◌, ◌++◌, map, reverse, length, get_or, take, sym, refl, ap, ◌∙◌, subst, ap₂, take_all}
+use Rattle.std.proofs.Common.{◌≡◌, ℕ, ◌+◌, ◌<◌, List, [], ◌∷◌, ◌++◌, map, reverse, length, get_or, take, sym, ap, ◌∙◌, subst, ap₂}
 use mathlib.Core.List.{reverse-append}
 use Rattle.std.proofs.lemmas.List.{map_push, take_more, length_push}
 use Rattle.calls.specs.declared.event.Call.{Call}
@@ -21,10 +21,6 @@ pub record SoFar (most : ℕ) (s₀ : State) (k₀ : List Record) (calls : List 
   pub all : map call_of events ≡ take i calls
   pub ran : Ran most (reverse events) s₀ k₀ s k
   pub since : (b : Table) → Since most b [] s₀ → Lists b [] k₀ → Since most b (reverse events) s × Lists b (reverse events) k
-
-pub none_yet : (most : ℕ) (s : State) (k : List Record) (calls : List Call) (events : List Event) → events ≡ [] → SoFar most s k calls 0 events s k
-none_yet most s k calls events none =
-    subst (λ (l : List Event). SoFar most s k calls 0 l s k) (sym none) (record { count = refl; all = refl; ran = (refl, refl); since = λ b u l. (u, l) })
 
 -- a call that leads on as it is defined keeps the promise
 step_upholds : (most : ℕ) (e : Event) (s : State) (k : List Record) (s' : State) (k' : List Record) → StepsTo most e s k s' k' → Upholds most e s k s' k'
@@ -54,7 +50,3 @@ module _ (most : ℕ) (s₀ : State) (k₀ : List Record) (calls : List Call) (i
             let new = step_upholds most e s k s' k' step b (reverse events) old.0 in
             subst (λ (h : History). Since most b h s' × Lists b h k') back (new.0, (new.2 old.1).0);
       }
-
-  -- all of them
-  pub all_made : length calls ≤ i → SoFar most s₀ k₀ calls i events s k → map call_of events ≡ calls
-  all_made done far = far.all ∙ take_all i calls done

@@ -4,6 +4,7 @@ use Rattle.std.proofs.Common.{◌≡◌, ℕ, true, List, map, reverse, None, Op
 use mathlib.Core.List.{reverse-reverse}
 use Rattle.calls.specs.declared.event.Event.{Event}
 use Rattle.calls.specs.declared.record.Record.{Record}
+use Rattle.calls.specs.declared.refusal.Refusal.{Refusal}
 use Rattle.history.specs.Played.{Ran, Played}
 use Rattle.history.specs.State.{State}
 use Rattle.table.specs.File.{header_of}
@@ -12,7 +13,7 @@ use Rattle.run_vectors.specs.Runs.{routes, fault_of, calls_in, refusals_in, refu
 use Rattle.run_vectors.proofs.Leads.{Led, end, end-ran, end-calls, only_end}
 use Rattle.run_vectors.proofs.Starts.{Spares, start_of, begun-is, roomy_for, begun-for}
 
-abbrev pub told : Led → List (Option ℕ) × List Record
+abbrev pub told : Led → List (Option Refusal) × List Record
 told x = (map refusal_of (reverse x.events), x.ledger)
 
 abbrev pub Computes : List ℕ → List Step → List Record → Type 0

@@ -1,7 +1,7 @@
 -- What the definitions say of a worked run, over the mesh of four columns and one row and a medium with 128 intervals. Assumes nothing.
 --   fault_of: the first fault of a file
---   calls_in: the calls of the steps, from slot n on; refusals_in: the refusal of each of them, by its number
---   refusal_of: the number of an event's refusal, if it is refused
+--   calls_in: the calls of the steps, from slot n on; refusals_in: the refusal of each of them
+--   refusal_of: an event's refusal, if it is refused
 --   Runs: the file is loaded, and the calls are answered so and leave this ledger
 use Rattle.std.specs.Prelude.{◌≡◌, ℕ, zero, suc, ◌+◌, ◌*◌, List, [], ◌∷◌, ◌++◌, map, reverse, replicate, Some, None, Ok, Err, Option, Result}
 use Rattle.analysis.specs.Loading.{load_checks}
@@ -12,7 +12,6 @@ use Rattle.calls.specs.declared.event.Event.TheVariants.{Released, Arbitrated, I
 use Rattle.calls.specs.declared.record.Record.{Record}
 use Rattle.calls.specs.declared.refusal.Refusal.{Refusal}
 use Rattle.calls.specs.Events.{no_record, call_of}
-use Rattle.calls.specs.Refusals.{number_of}
 use Rattle.fabric.specs.Routes.{Route}
 use Rattle.history.specs.Begun.{Begun}
 use Rattle.history.specs.Played.{Ran, Played}
@@ -41,16 +40,16 @@ calls_in n (Release flow cycle refusal ∷ steps) = release flow cycle ∷ calls
 calls_in n (Slots m ∷ steps) = slots_from n m ++ calls_in (n + m) steps
 
 -- both calls of a slot are accepted
-abbrev pub refusals_in : List Step → List (Option ℕ)
+abbrev pub refusals_in : List Step → List (Option Refusal)
 refusals_in [] = []
 refusals_in (Release flow cycle refusal ∷ steps) = refusal ∷ refusals_in steps
 refusals_in (Slots m ∷ steps) = replicate (2 * m) None ++ refusals_in steps
 
-abbrev pub refusal_in : {X : Type 0} → Result X Refusal → Option ℕ
+abbrev pub refusal_in : {X : Type 0} → Result X Refusal → Option Refusal
 refusal_in (Ok x) = None
-refusal_in (Err e) = Some (number_of e)
+refusal_in (Err e) = Some e
 
-abbrev pub refusal_of : Event → Option ℕ
+abbrev pub refusal_of : Event → Option Refusal
 refusal_of (Released flow cycle answer) = refusal_in answer
 refusal_of (Arbitrated answer) = refusal_in answer
 refusal_of (Injected slip answer) = refusal_in answer

@@ -1,11 +1,12 @@
 // A worked case.
 use calls::record::Record;
+use calls::refusal::Refusal;
 
 // What is done in a run.
 #[derive(Clone, Copy)]
 pub enum Step {
-    // A flow releases a packet at a cycle; the number of its refusal, if it is refused.
-    Release(usize, u64, Option<u8>),
+    // A flow releases a packet at a cycle; its refusal, if it is refused.
+    Release(usize, u64, Option<Refusal>),
     // So many slots are arbitrated and injected.
     Slots(u8),
 }

@@ -4,6 +4,7 @@ ghost use Rattle.run_vectors.specs.Cases.{Holds};
 
 use crate::case::{Case, Step};
 use calls::record::Record;
+use calls::refusal::Refusal;
 
 // The three-flow table: 32 bytes of header, and 16 for each flow.
 const THREE_FLOWS: [u8; 80] = *b"\
@@ -68,11 +69,11 @@ pub fn cases() -> [Case; 4]
                 },
             ],
         },
-        // A release at cycle 1 misses the interval of flow 1 in slot 0; it belongs to slot 1.
+        // A release at cycle 1 misses the interval of flow 1 in slot 0; it belongs to slot 1: refusal 23.
         Case {
             file: THREE_FLOWS,
             steps: [
-                Step::Release(1, 1, Some(23)),
+                Step::Release(1, 1, Some(Refusal::Ahead)),
                 Step::Slots(1),
                 Step::Release(1, 1, None),
                 Step::Slots(1),
@@ -91,13 +92,13 @@ pub fn cases() -> [Case; 4]
                 BLANK,
             ],
         },
-        // Releases of flow 1 are 200 cycles apart.
+        // Releases of flow 1 are 200 cycles apart: refusal 24.
         Case {
             file: THREE_FLOWS,
             steps: [
                 Step::Release(1, 0, None),
                 Step::Slots(10),
-                Step::Release(1, 199, Some(24)),
+                Step::Release(1, 199, Some(Refusal::Soon)),
                 Step::Release(1, 200, None),
             ],
             ledger: [
@@ -122,7 +123,7 @@ pub fn cases() -> [Case; 4]
                 BLANK,
             ],
         },
-        // Flow 2 may release every 20 cycles, but its packet is open for longer.
+        // Flow 2 may release every 20 cycles, but its packet is open for longer: refusal 25.
         Case {
             file: *b"\
                 \x03\x00\x04\x00\x01\x00\x01\x00\x11\x00\x00\x00\x20\x00\x00\x00\
@@ -133,7 +134,7 @@ pub fn cases() -> [Case; 4]
             steps: [
                 Step::Release(2, 0, None),
                 Step::Slots(1),
-                Step::Release(2, 20, Some(25)),
+                Step::Release(2, 20, Some(Refusal::Busy)),
                 Step::Slots(2),
             ],
             ledger: [

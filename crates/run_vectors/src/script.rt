@@ -4,6 +4,7 @@ ghost use Rattle.run_vectors.specs.Runs.{slots_from, calls_in, refusal_of};
 
 use crate::case::Step;
 use calls::event::{Call, Event};
+use calls::refusal::Refusal;
 use calls::slip_name::SlipName;
 use std::alloc::{AllocError, Global};
 
@@ -15,8 +16,7 @@ fn add_slots(calls: &mut Vec<Call>, first: u32, count: u8) -> Result<(), AllocEr
     requires { first + count < 2 ^ 32 }
     ensures { OnOk result (calls.new.items ≡ calls.old.items ++ slots_from first count) }
 {
-    for k in 0..count {
-        let slot = first + u32::from(k);
+    for slot in first..first + u32::from(count) {
         calls.push(Call::Arbitrate)?;
         calls.push(Call::Inject {
             slip: SlipName { number: RUN, slot },
@@ -43,31 +43,22 @@ pub fn calls_of(heap: Global, steps: &[Step; 4]) -> Result<Vec<Call>, AllocError
     Ok(calls)
 }
 
-// The number of the refusal of a call, if it was refused.
-fn refusal_of(event: &Event) -> Option<u8>
+// The refusal of a call, if it was refused.
+fn refusal_of(event: &Event) -> Option<Refusal>
     ensures { result ≡ refusal_of event.now }
 {
-    let refusal = match *event {
-        Event::Released { answer, .. } => answer.err(),
+    match *event {
+        Event::Released { answer, .. } | Event::Abandoned { answer, .. } => answer.err(),
         Event::Arbitrated { answer } => answer.err(),
         Event::Injected { answer, .. } => answer.err(),
-        Event::Abandoned { answer, .. } => answer.err(),
         Event::Reported { answer } => answer.err(),
         Event::Told { answer, .. } => answer.err(),
-    };
-    match refusal {
-        Some(refusal) => Some(refusal.number()),
-        None => None,
     }
 }
 
 // Whether all of these calls were accepted.
 fn all_accepted(events: &[Event]) -> bool {
-    let mut all = true;
-    for event in events {
-        all &= refusal_of(event).is_none();
-    }
-    all
+    events.iter().all(|event| refusal_of(event).is_none())
 }
 
 // Whether each step was answered as it must be.
@@ -76,7 +67,7 @@ pub fn answered(events: &[Event], steps: &[Step; 4]) -> bool {
     for step in steps {
         match *step {
             Step::Release(_, _, refusal) => {
-                let [event, rest @ ..] = left else {
+                let Some((event, rest)) = left.split_first() else {
                     return false;
                 };
                 if refusal_of(event) != refusal {
@@ -85,11 +76,13 @@ pub fn answered(events: &[Event], steps: &[Step; 4]) -> bool {
                 left = rest;
             }
             Step::Slots(count) => {
-                let calls = 2 * usize::from(count);
-                if left.len() < calls || !all_accepted(&left[0..calls]) {
+                let Some((calls, rest)) = left.split_at_checked(2 * usize::from(count)) else {
+                    return false;
+                };
+                if !all_accepted(calls) {
                     return false;
                 }
-                left = &left[calls..];
+                left = rest;
             }
         }
     }

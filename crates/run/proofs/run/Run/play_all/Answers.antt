@@ -1,14 +1,7 @@
-use Rattle.std.proofs.Common.{vec_items, refl, ◌∙◌, arith}
+use Rattle.std.proofs.Common.{vec_items, ◌∙◌}
 use Rattle.run.specs.Seen.{state_of}
-use Rattle.run.proofs.Plays.{none_yet, one_more, all_made}
+use Rattle.run.proofs.Plays.{one_more}
 use Rattle.run.proofs.run.Run.play_all.Goals as goal
-
-pub loop-call-init : goal.loop-call-init
-loop-call-init g c = (none_yet _ _ _ _ _ c.requires.none, refl)
-
-pub push_reserved-requires : goal.push_reserved-requires
-push_reserved-requires g c =
-    omega (arith, c.loop-call.invariant.0.count, c.loop-call.invariant.1, c.loop-call.events.ok.0, c.loop-call-test.true, c.requires.room)
 
 pub loop-call-preserved : goal.loop-call-preserved
 loop-call-preserved g c =
@@ -19,8 +12,3 @@ loop-call-preserved g c =
           c.push_reserved.ensures.items c.loop-call.invariant.0,
       c.push_reserved.ensures.capacity ∙ c.loop-call.invariant.1,
     )
-
-pub returns : goal.returns
-returns g c =
-    let far = c.loop-call.invariant.0 in
-    record { all = all_made _ _ _ _ _ _ _ _ (omega (arith, c.loop-call-test.false)) far; ran = far.ran; since = far.since }
