@@ -17,7 +17,7 @@ pub struct Progress {
     pub granted: bool,
 }
 
-#[derive(Clone, Copy)]
+#[derive(Clone, Drop)]
 pub struct FlowRow {
     // what load fixed
     pub flow: Row,

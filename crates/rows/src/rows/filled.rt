@@ -45,7 +45,8 @@ impl Rows {
             if !is_small(flow) {
                 return Ok(None);
             }
-            items.push(idle(*flow))?;
+            let flow = flow.clone()?;
+            items.push(idle(flow))?;
         }
         Ok(Some(Rows { items }))
     }

@@ -1,4 +1,4 @@
-use Rattle.std.proofs.Common.{◌≡◌, ℕ, ◌+◌, ◌<◌, List, [], ◌∷◌, ◌++◌, map, length, get_or, take, vec_items, sym, ap, ◌∙◌, subst, arith}
+use Rattle.std.proofs.Common.{◌≡◌, ℕ, ◌+◌, ◌<◌, List, [], ◌∷◌, ◌++◌, map, length, get_or, take, vec_items, sym, ap, ◌∙◌, subst, arith, rules}
 use Rattle.std.proofs.lemmas.List.{map_more}
 use Rattle.analysis.specs.declared.row.Row.{Row}
 use Rattle.rows.specs.declared.flow_row.FlowRow.{FlowRow}
@@ -19,7 +19,8 @@ returns-then-not-is_small c = failed_small c.args.flows.now c.loop-flow.flow-ind
 pub loop-flow-preserved : goal.loop-flow-preserved
 loop-flow-preserved c =
     let flow = c.flow-item.result in
-    let new = vec_items c.push.new.self in (
-      more c.args.flows.now c.loop-flow.flow-index flow _ _ _ (omega arith) c.loop-flow.invariant.0 (c.idle.ensures ∙ ap idle c.flow-item.is) c.in_ok-push.ensures.items,
-      small_more (vec_items c.loop-flow.items) _ c.idle.result c.loop-flow.invariant.1 (subst (λ (r : FlowRow). IsSmall r.flow) (sym c.idle.ensures) (passed_small flow (sym c.is_small.ensures ∙ c.if-not-is_small.false))) c.in_ok-push.ensures.items,
+    let new = vec_items c.push.new.self in
+    let same : c.in_ok-flow.flow ≡ flow = search rules in (
+      more c.args.flows.now c.loop-flow.flow-index flow _ _ _ (omega arith) c.loop-flow.invariant.0 (c.idle.ensures ∙ ap idle (same ∙ c.flow-item.is)) c.in_ok-push.ensures.items,
+      small_more (vec_items c.loop-flow.items) _ c.idle.result c.loop-flow.invariant.1 (subst (λ (r : FlowRow). IsSmall r.flow) (sym (c.idle.ensures ∙ ap idle same)) (passed_small flow (sym c.is_small.ensures ∙ c.if-not-is_small.false))) c.in_ok-push.ensures.items,
     )
