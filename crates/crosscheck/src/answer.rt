@@ -1,38 +1,163 @@
 // What is told of a table: a row of figures for each flow, or the first refusal.
+use std::error::Error;
 use std::fmt;
 
-// Why there is no route: the hop, from 1 (0 where it is about no hop), and the number of the cause.
+// What is wrong with a route, by the number in which it is told.
+#[derive(Clone, Copy, PartialEq, Eq, PartialOrd, Ord, Debug)]
+pub enum Cause {
+    // no route of 2 to 64 links is there
+    Length = 1,
+    // the route's numbers leave the number list
+    List = 2,
+    // a number that names no link
+    UnknownLink = 3,
+    // the first link does not begin at the source's core
+    Start = 4,
+    // a link does not begin where the one before it ends
+    Gap = 5,
+    // a link that the route has used already
+    Repeated = 6,
+    // the last link does not end at the destination's core
+    End = 7,
+    // a node that the fabric does not have
+    UnknownNode = 8,
+}
+
+// Why a table is refused, by the number in which it is told.
+#[derive(Clone, Copy, PartialEq, Eq, PartialOrd, Ord)]
+pub enum Reason {
+    // too few or too many bytes
+    Size = 1,
+    // a header field outside its range
+    Field = 2,
+    // a profile that nobody knows
+    Profile = 3,
+    // a section that ends past the file
+    Section = 4,
+    // a flow record out of range
+    Record = 5,
+    // a separation shorter than a slot
+    Separation = 6,
+    // a flow without a route
+    Route = 7,
+    // a route on which one part could not carry a flit
+    Capacity = 8,
+    // more flows than intervals, or a fabric of another size
+    Misfit = 9,
+}
+
+impl Cause {
+    pub const ALL: [Cause; 8] = [
+        Cause::Length,
+        Cause::List,
+        Cause::UnknownLink,
+        Cause::Start,
+        Cause::Gap,
+        Cause::Repeated,
+        Cause::End,
+        Cause::UnknownNode,
+    ];
+}
+
+impl Reason {
+    pub const ALL: [Reason; 9] = [
+        Reason::Size,
+        Reason::Field,
+        Reason::Profile,
+        Reason::Section,
+        Reason::Record,
+        Reason::Separation,
+        Reason::Route,
+        Reason::Capacity,
+        Reason::Misfit,
+    ];
+}
+
+impl From<Cause> for u8 {
+    fn from(cause: Cause) -> u8 {
+        cause as u8
+    }
+}
+
+impl From<Reason> for u8 {
+    fn from(reason: Reason) -> u8 {
+        reason as u8
+    }
+}
+
+// A number that names no cause or no reason.
+#[derive(Clone, Copy, Debug)]
+pub struct UnknownNumber(u8);
+
+impl fmt::Display for UnknownNumber {
+    fn fmt<W: fmt::Write>(&self, f: &mut fmt::Formatter<W>) -> fmt::Result {
+        let number = self.0;
+        write!(f, "nothing has the number {number}")
+    }
+}
+
+impl Error for UnknownNumber {}
+
+// The case that has a number.
+fn numbered<K: Copy + Into<u8>>(cases: &[K], number: u8) -> Result<K, UnknownNumber> {
+    let case = cases.iter().copied().find(|case| {
+        let told: u8 = (*case).into();
+        told == number
+    });
+    case.ok_or(UnknownNumber(number))
+}
+
+impl TryFrom<u8> for Cause {
+    type Error = UnknownNumber;
+
+    fn try_from(number: u8) -> Result<Cause, UnknownNumber> {
+        numbered(&Cause::ALL, number)
+    }
+}
+
+impl TryFrom<u8> for Reason {
+    type Error = UnknownNumber;
+
+    fn try_from(number: u8) -> Result<Reason, UnknownNumber> {
+        numbered(&Reason::ALL, number)
+    }
+}
+
+impl fmt::Display for Cause {
+    fn fmt<W: fmt::Write>(&self, f: &mut fmt::Formatter<W>) -> fmt::Result {
+        u8::from(*self).fmt(f)
+    }
+}
+
+impl fmt::Display for Reason {
+    fn fmt<W: fmt::Write>(&self, f: &mut fmt::Formatter<W>) -> fmt::Result {
+        u8::from(*self).fmt(f)
+    }
+}
+
+// Why there is no route: the hop, from 1 (0 where it is about no hop), and the cause.
 #[derive(Clone, Copy, PartialEq, Debug)]
 pub struct NoRoute {
     pub hop: u64,
-    pub cause: u64,
+    pub cause: Cause,
 }
 
-// The first refusal, with its number, the flow and the byte that it is about (0 for none).
+// The first refusal, with the flow and the byte that it is about (0 for none).
 #[derive(Clone, Copy, PartialEq)]
 pub struct Refusal {
-    pub number: u64,
+    pub reason: Reason,
     pub flow: u64,
     pub byte: u64,
     pub route: Option<NoRoute>,
 }
 
 impl Refusal {
-    pub fn new(number: u64, flow: u64, byte: u64) -> Refusal {
+    pub fn new(reason: Reason, flow: u64, byte: u64) -> Refusal {
         Refusal {
-            number,
+            reason,
             flow,
             byte,
             route: None,
-        }
-    }
-
-    pub fn without_route(flow: u64, byte: u64, fault: NoRoute) -> Refusal {
-        Refusal {
-            number: 7,
-            flow,
-            byte,
-            route: Some(fault),
         }
     }
 }
@@ -47,11 +172,7 @@ pub struct Row {
     pub rounds: u64,
 }
 
-#[derive(PartialEq, Drop)]
-pub enum Answer {
-    Loaded(Vec<Row>),
-    Refused(Refusal),
-}
+pub type Answer = Result<Vec<Row>, Refusal>;
 
 impl fmt::Display for Row {
     fn fmt<W: fmt::Write>(&self, f: &mut fmt::Formatter<W>) -> fmt::Result {
@@ -69,22 +190,25 @@ impl fmt::Display for Row {
     }
 }
 
+impl fmt::Display for NoRoute {
+    fn fmt<W: fmt::Write>(&self, f: &mut fmt::Formatter<W>) -> fmt::Result {
+        let NoRoute { hop, cause } = *self;
+        write!(f, "hop {hop} cause {cause}")
+    }
+}
+
 impl fmt::Display for Refusal {
     fn fmt<W: fmt::Write>(&self, f: &mut fmt::Formatter<W>) -> fmt::Result {
         let Refusal {
-            number,
+            reason,
             flow,
             byte,
             route,
         } = *self;
+        write!(f, "refused {reason} flow {flow} byte {byte}")?;
         match route {
-            Some(NoRoute { hop, cause }) => {
-                write!(
-                    f,
-                    "refused {number} flow {flow} byte {byte} hop {hop} cause {cause}"
-                )
-            }
-            None => write!(f, "refused {number} flow {flow} byte {byte}"),
+            Some(fault) => write!(f, " {fault}"),
+            None => Ok(()),
         }
     }
 }
