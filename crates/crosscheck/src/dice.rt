@@ -45,11 +45,11 @@ impl Dice {
         from.get(place).copied().unwrap_or_default()
     }
 
-    // Puts each of some values in the place of another one.
+    // Swaps each value with one that is drawn; by index, since a swap takes two of the same slice.
     pub fn shuffle<T>(&mut self, items: &mut [T]) {
         for place in 0..items.len() {
             let other = self.below(items.len() as u64) as usize;
-            if place < items.len() && other < items.len() {
+            if other < items.len() {
                 items.swap(place, other);
             }
         }

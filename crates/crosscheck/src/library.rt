@@ -1,6 +1,7 @@
 // What the library answers, in the words of the second calculation.
-use crate::answer::{Answer, Cause, NoRoute, Reason, Refusal, Row, UnknownNumber};
+use crate::answer::{Answer, NoRoute, Refusal, Row};
 use crate::case::Case;
+use crate::numbered::{Cause, Reason, UnknownNumber};
 use crate::second::link::Link;
 use analysis::figures::Figures;
 use analysis::load::load;

@@ -26,7 +26,10 @@ fn told_by_second(heap: Global, route: &Route) -> Result<Told, AllocError> {
     };
     let told = links.iter().copied().map(Some).chain([None; PAST]);
     Ok(Told {
-        length: route.as_ref().map(|links| links.len() as u64).map_err(|fault| *fault),
+        length: route
+            .as_ref()
+            .map(|links| links.len() as u64)
+            .map_err(|fault| *fault),
         links: told.collect(heap)?,
     })
 }

@@ -108,8 +108,7 @@ fn crowd(dice: &mut Dice) -> Recipe {
 }
 
 // The same with listed links, as a ring, a tree or a grid.
-// A throw is matched, here and elsewhere: each face draws what it needs, a weight is an or-pattern, and a table of
-// closures would hide both.
+// A throw is matched, here and elsewhere: a table of closures would be longer, and would hide what each face draws.
 fn listed(dice: &mut Dice, base: Recipe) -> Recipe {
     let shape = match dice.below(3) {
         0 => Shape::Ring,

@@ -119,12 +119,7 @@ impl Net {
     }
 
     // The links of the way from one node to another.
-    pub fn way(
-        &self,
-        heap: Global,
-        source: u64,
-        destination: u64,
-    ) -> Result<Vec<u64>, AllocError> {
+    pub fn way(&self, heap: Global, source: u64, destination: u64) -> Result<Vec<u64>, AllocError> {
         let steps = successors(Some(source), |node| Some(self.step(*node, destination)))
             .take(self.nodes as usize)
             .take_while(|node| *node != destination)

@@ -1,6 +1,7 @@
 // What was seen.
-use crate::answer::{Answer, Cause, NoRoute, Reason, Row};
+use crate::answer::{Answer, NoRoute, Row};
 use crate::case::Case;
+use crate::numbered::{Cause, Reason};
 use crate::second::network::Kind;
 use crate::second::records::BOARDS;
 use std::alloc::{AllocError, Global};
@@ -134,7 +135,10 @@ impl fmt::Display for Tally {
         let tables = self.tables;
         let on_mesh = self.loaded.times(Kind::Mesh);
         let on_listed = self.loaded.times(Kind::Listed);
-        writeln!(f, "tables {tables}: {on_mesh} loaded on a mesh, {on_listed} on listed links")?;
+        writeln!(
+            f,
+            "tables {tables}: {on_mesh} loaded on a mesh, {on_listed} on listed links"
+        )?;
         let Tally {
             bounded,
             unbounded,
@@ -146,7 +150,10 @@ impl fmt::Display for Tally {
             ..
         } = self;
         writeln!(f, "flows {bounded} bounded, {unbounded} unbounded")?;
-        writeln!(f, "at most {flows} flows, {hops} hops, {parts} parts, {rounds} rounds")?;
+        writeln!(
+            f,
+            "at most {flows} flows, {hops} hops, {parts} parts, {rounds} rounds"
+        )?;
         for board in BOARDS {
             let profile = board.profile;
             let loaded = self.profiles.times(profile);

@@ -108,7 +108,9 @@ impl Ranking {
         let higher = self.settled.get(place)?;
         let cut = higher.carried.cut;
         let late = higher.bound?.saturating_add(self.slot.board.pause);
-        let jitter = late.saturating_sub(cut.alone).saturating_sub(self.slot.whole);
+        let jitter = late
+            .saturating_sub(cut.alone)
+            .saturating_sub(self.slot.whole);
         Some(Load {
             jitter: if higher.hides(above) { jitter } else { 0 },
             separation: higher.carried.flow.pace.separation,

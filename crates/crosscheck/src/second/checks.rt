@@ -1,45 +1,41 @@
 // The checks of a file's size, header and sections, and of its records.
-use crate::answer::{Reason, Refusal};
+use crate::answer::Refusal;
 use crate::case::Case;
+use crate::numbered::Reason;
 use crate::second::file::File;
-use crate::second::records::{Flow, Pace, Record};
+use crate::second::records::{Flow, Pace, Record, Slot};
 use crate::second::sections::Section;
 
 // Whether the header field that starts at a byte is out of its range.
 fn field_wrong(file: File, byte: u64) -> bool {
-    let mesh = file.links() == 0;
     match byte {
         0 => !(1..=128).contains(&file.flows()),
         2 => !(1..=256).contains(&file.nodes()),
         8 => file.spare() > 4095,
         10 => file.links() > 2048,
-        16 | 20 | 24 => mesh && file.number(byte, 4) > 0,
-        28 => mesh && file.numbers() > 0,
+        16 | 20 | 24 => file.is_mesh() && file.number(byte, 4) > 0,
+        28 => file.is_mesh() && file.numbers() > 0,
         30 => file.number(30, 2) > 0,
         _ => false,
     }
 }
 
-// The size, the lowest field at fault, the profile.
-fn check_header(file: File) -> Result<(), Refusal> {
+// The size, the lowest field at fault, the profile; and the slot that the table gives.
+fn check_header(file: File) -> Result<Slot, Refusal> {
     if !(32..=65535).contains(&file.len()) {
         return Err(Refusal::new(Reason::Size, 0, 0));
     }
     if let Some(byte) = (0..32).find(|byte| field_wrong(file, *byte)) {
         return Err(Refusal::new(Reason::Field, 0, byte));
     }
-    if file.slot().is_none() {
-        return Err(Refusal::new(Reason::Profile, 0, 6));
-    }
-    Ok(())
+    file.slot().ok_or(Refusal::new(Reason::Profile, 0, 6))
 }
 
 // The first section that ends past the file, told at its offset field; a mesh has flows alone.
 fn check_sections(file: File) -> Result<(), Refusal> {
-    let mesh = file.links() == 0;
     let past = Section::ALL
         .into_iter()
-        .filter(|section| !mesh || *section == Section::Flows)
+        .filter(|section| !file.is_mesh() || *section == Section::Flows)
         .find(|section| section.overruns(file));
     match past {
         Some(section) => Err(Refusal::new(Reason::Section, 0, section as u64)),
@@ -54,13 +50,14 @@ pub fn check_fabric(file: File) -> Result<(), Refusal> {
 }
 
 // The header, the fit, and then the sections.
-pub fn check_file(case: &Case) -> Result<(), Refusal> {
+pub fn check_file(case: &Case) -> Result<Slot, Refusal> {
     let file = case.file;
-    check_header(file)?;
+    let slot = check_header(file)?;
     if file.flows() > case.limit || file.nodes() != case.network.file.nodes() {
         return Err(Refusal::new(Reason::Misfit, 0, 0));
     }
-    check_sections(file)
+    check_sections(file)?;
+    Ok(slot)
 }
 
 fn flow_wrong(flow: &Flow, nodes: u64) -> bool {

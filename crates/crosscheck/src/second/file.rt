@@ -44,13 +44,18 @@ impl File<'_> {
         self.number(8, 2)
     }
 
-    // .. how many links are listed, none where the table means a mesh ..
+    // .. how many links are listed ..
     pub fn links(self) -> u64 {
         self.number(10, 2)
     }
 
-    // .. and how many numbers of their routes.
+    // .. and how many numbers the number list has.
     pub fn numbers(self) -> u64 {
         self.number(28, 2)
+    }
+
+    // Whether the table means a mesh.
+    pub fn is_mesh(self) -> bool {
+        self.links() == 0
     }
 }

@@ -1,5 +1,6 @@
 // The mesh: nodes in rows, each joined with the nodes beside it.
-use crate::answer::{Cause, NoRoute};
+use crate::answer::NoRoute;
+use crate::numbered::Cause;
 use crate::second::file::File;
 use crate::second::link::Link;
 use crate::second::network::{Route, Trip};

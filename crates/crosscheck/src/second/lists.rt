@@ -1,5 +1,6 @@
 // The links and the routes that a file lists.
-use crate::answer::{Cause, NoRoute};
+use crate::answer::NoRoute;
+use crate::numbered::Cause;
 use crate::second::file::File;
 use crate::second::link::{Link, core};
 use crate::second::network::{Route, Trip};
@@ -60,7 +61,7 @@ impl Lists<'_> {
     // Which numbers of the number list belong to the route of a flow: the first, and how many.
     fn entry(self, flow: u64) -> Result<(u64, u64), Cause> {
         let file = self.file;
-        if file.links() == 0 || !(1..=file.flows()).contains(&flow) {
+        if file.is_mesh() || !(1..=file.flows()).contains(&flow) {
             return Err(Cause::Length);
         }
         let entry = Section::Entries.place(file, flow.saturating_sub(1));

@@ -1,5 +1,6 @@
 // The routes of both fabrics and the ends of their links.
-use crate::answer::{Cause, NoRoute};
+use crate::answer::NoRoute;
+use crate::numbered::Cause;
 use crate::second::file::File;
 use crate::second::grid::Grid;
 use crate::second::link::Link;
@@ -34,9 +35,10 @@ pub struct Network<'a> {
 impl<'a> Network<'a> {
     // The fabric that a file means.
     pub fn of(file: File<'a>) -> Network<'a> {
-        let kind = match file.links() {
-            0 => Kind::Mesh,
-            _ => Kind::Listed,
+        let kind = if file.is_mesh() {
+            Kind::Mesh
+        } else {
+            Kind::Listed
         };
         Network { kind, file }
     }

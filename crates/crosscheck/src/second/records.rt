@@ -1,5 +1,6 @@
 // Flow records, and what the profile fixes.
-use crate::answer::{Reason, Refusal};
+use crate::answer::Refusal;
+use crate::numbered::Reason;
 use crate::second::file::File;
 use crate::second::network::Trip;
 use crate::second::sections::Section;

@@ -1,6 +1,7 @@
 // The whole answer to a case, with the checks in their order.
-use crate::answer::{Answer, Reason, Refusal, Row};
+use crate::answer::{Answer, Refusal, Row};
 use crate::case::Case;
+use crate::numbered::Reason;
 use crate::second::bounds::{Carried, Settled, settle_all};
 use crate::second::checks::{check_fabric, check_file, check_records};
 use crate::second::network::Network;
@@ -57,11 +58,7 @@ fn carry(heap: Global, network: Network, slot: &Slot, record: Record) -> Result<
 // The figures of all flows, after all checks.
 fn rows(heap: Global, case: &Case) -> Result<Vec<Row>, Stop> {
     check_fabric(case.network.file)?;
-    check_file(case)?;
-    let slot = case
-        .file
-        .slot()
-        .ok_or(Refusal::new(Reason::Profile, 0, 6))?;
+    let slot = check_file(case)?;
     check_records(case.file, slot.whole)?;
     let flows: Vec<Carried> = (1..=case.file.flows())
         .map(|flow| carry(heap, case.network, &slot, case.file.record(flow)))
