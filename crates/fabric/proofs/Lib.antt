@@ -1,3 +1,2 @@
 pub mod Sharing
 pub mod Lengths
-pub mod Kept

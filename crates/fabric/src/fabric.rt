@@ -5,6 +5,7 @@ ghost use Rattle.fabric.specs.Routes.{Route, Lawful, length_of, link_of, ends_of
 
 use crate::fault::RouteFault;
 use crate::route::Ends;
+use crate::trip::Trip;
 
 pub trait Fabric {
     // How many nodes there are; they are numbered below this.
@@ -24,12 +25,12 @@ pub trait Fabric {
         ensures { result ≡ nodes self.now };
 
     // How many links the route has, or why there is none.
-    fn route_len(&self, flow: usize, source: usize, destination: usize) -> Result<usize, RouteFault>
-        ensures { result ≡ length_of (route self.now flow source destination) };
+    fn route_len(&self, trip: Trip) -> Result<usize, RouteFault>
+        ensures { result ≡ length_of (route self.now trip.flow trip.source trip.destination) };
 
     // The k-th link of the route, from 0; none past its end or where there is no route.
-    fn route_link(&self, flow: usize, source: usize, destination: usize, k: usize) -> Option<usize>
-        ensures { result ≡ link_of (route self.now flow source destination) k };
+    fn route_link(&self, trip: Trip, k: usize) -> Option<usize>
+        ensures { result ≡ link_of (route self.now trip.flow trip.source trip.destination) k };
 
     // The ends of a link; none where there is no such link.
     fn link_ends(&self, link: usize) -> Option<Ends>

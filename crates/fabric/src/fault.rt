@@ -6,21 +6,21 @@ ghost use Rattle.fabric.specs.Causes.{cause_number};
 #[derive(Clone, Copy, PartialEq, Eq)]
 pub enum Cause {
     // no route of 2 to 64 links is there
-    Length,
+    Length = 1,
     // the route's numbers leave the number list
-    List,
+    List = 2,
     // a number that is not below the link count
-    UnknownLink,
+    UnknownLink = 3,
     // the first link does not begin at the source's core
-    Start,
+    Start = 4,
     // a link does not begin where the one before it ends
-    Gap,
+    Gap = 5,
     // a link that the route has used already
-    Repeated,
+    Repeated = 6,
     // the last link does not end at the destination's core
-    End,
+    End = 7,
     // a node that the fabric does not have
-    UnknownNode,
+    UnknownNode = 8,
 }
 
 impl Cause {
@@ -28,16 +28,7 @@ impl Cause {
     pub fn number(self) -> u8
         ensures { result ≡ cause_number self }
     {
-        match self {
-            Cause::Length => 1,
-            Cause::List => 2,
-            Cause::UnknownLink => 3,
-            Cause::Start => 4,
-            Cause::Gap => 5,
-            Cause::Repeated => 6,
-            Cause::End => 7,
-            Cause::UnknownNode => 8,
-        }
+        self as u8
     }
 }
 

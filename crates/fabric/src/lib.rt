@@ -5,3 +5,4 @@ pub mod fabric;
 pub mod fault;
 pub mod path;
 pub mod route;
+pub mod trip;

@@ -1,12 +1,12 @@
 // A route that was taken from a fabric and is kept: its links in their order.
-ghost use Rattle.std.specs.Prelude.{◌≡◌, ◌≤◌, length};
+ghost use Rattle.std.specs.Prelude.{◌≤◌, length};
+
+use arrayvec::ArrayVec;
 
 pub mod taken;
 
-#[derive(Clone, Copy)]
+#[derive(Drop)]
 pub struct Path {
-    links: [usize; 64],
-    len: usize,
-    ghost long: { length links ≡ 64 },
-    ghost few: { len ≤ 64 },
+    links: ArrayVec<usize, 64>,
+    ghost few: { length links.items ≤ 64 },
 }

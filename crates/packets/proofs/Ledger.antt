@@ -7,7 +7,8 @@ use Rattle.timing.specs.Counts.{one}
 use Rattle.timing.specs.Model.{Table, Lawful, Bounds}
 use Rattle.packets.specs.Runs.{Run, waiting, before, left, grants}
 use Rattle.packets.specs.Calls.{Call, release, inject, slot_of, last_of, Packet, is_open, wants, granted, counted, ledger, Accepted, Kept, CallsInBound, NextFree}
-use Rattle.timing.proofs.Options.{cases_option, some_inj, none_some}
+use Rattle.std.proofs.lemmas.Option.{none-some}
+use Rattle.timing.proofs.Options.{cases_option}
 use Rattle.timing.proofs.Sums.{sum_eq, one_le}
 use Rattle.packets.proofs.Flows.{left_none_of, left_some_of, before_suc_of, grants_zero_of, grants_suc_of}
 use Rattle.packets.proofs.Slots.{winners, winners_are, winners_from, before_same, winners_same}
@@ -204,7 +205,7 @@ module _ (b : Table) where
     tied_kept p q apart =
         record {
           whole = q.whole;
-          released = other p.first p.flow (λ e. none_some p.time (sym empty ∙ at e ∙ q.released)) ∙ q.released;
+          released = other p.first p.flow (λ e. none-some p.time (sym empty ∙ at e ∙ q.released)) ∙ q.released;
           slots = q.slots;
           given = λ lt. got_kept p.flow p.first (p.grants + p.denials) (omega (arith, q.slots lt)) ∙ q.given lt;
           rest = λ lt. omega (arith, left_kept p.flow (λ e. apart lt (sym e)), q.rest lt);
@@ -295,7 +296,7 @@ module _ (b : Table) (law : Lawful b) where
 
   pub rel_free : (l : List Call) → Accepted b l → (n i u : ℕ) → rel_of l n i ≡ Some u → before b.w (rel_of l) (winners b (rel_of l)) n i ≡ 0
   unfolding rel_of
-  rel_free [] ok n i u e = absurd (none_some u e)
+  rel_free [] ok n i u e = cc
   rel_free (release j t ∷ l) ok n i u e =
       elim (rel_cases l j t n i u e) [
         | inl here ↦
@@ -393,7 +394,8 @@ module _ (b : Table) (law : Lawful b) where
               let q = all.0 in
               let flow : p.flow ≡ i = sym here.0 in
               let r = rel_last b l ok p.first p.flow p.time q.released in
-              let same : r.0 ≡ s = some_inj r.0 s (sym r.1 ∙ ap (last_of l) flow ∙ last) in
+              let moved = ap (last_of l) flow in
+              let same : r.0 ≡ s = cc in
               let own = law.parts i (bounds i y bound).flow in
               let late = open_bound l ok p q y (ap R flow ∙ bound) here.1 in
               let more : suc (slot_of l) * b.S ≤ (slot_of l + (b.w p.flow - p.grants)) * b.S = mul-le-mul_right b.S (omega (arith, here.1)) in

@@ -3,7 +3,6 @@ use Rattle.std.proofs.Common.{◌≡◌, ℕ, ◌+◌, ◌*◌, ◌<◌, ◌≤�
 use Rattle.std.proofs.lemmas.Bool.{cases_eq, cases_Bool, and_parts, and_from, cond-true, cond-false, eq-eqb, ne_eqb, eqb-true}
 use Rattle.timing.specs.Model.{Table, Flow}
 use Rattle.packets.specs.Calls.{Call, release, inject, slot_of, last_of, Accepted}
-use Rattle.timing.proofs.Options.{some_inj, none_some}
 use Rattle.packets.proofs.Steps.{slot_same, slot_suc}
 
 -- the time of the release of flow i into slot n
@@ -39,7 +38,7 @@ rel_cases l j t n i u e =
           inl (
             eqb-true n (slot_of l) p.0,
             eqb-true i j p.1,
-            some_inj u t (sym e ∙ cond-true (eqb n (slot_of l) && eqb i j) (Some t) (rel_of l n i) both),
+            cc (cond-true (eqb n (slot_of l) && eqb i j) (Some t) (rel_of l n i) both),
           )
       | inr one-not ↦ inr (sym (cond-false (eqb n (slot_of l) && eqb i j) (Some t) (rel_of l n i) one-not) ∙ e)
     ]
@@ -47,7 +46,7 @@ rel_cases l j t n i u e =
 -- nothing is released into a later slot
 pub rel_upto : (l : List Call) (n i u : ℕ) → rel_of l n i ≡ Some u → n ≤ slot_of l
 unfolding rel_of
-rel_upto [] n i u e = absurd (none_some u e)
+rel_upto [] n i u e = cc
 rel_upto (release j t ∷ l) n i u e =
     elim (rel_cases l j t n i u e) [
       | inl here ↦ omega (arith, slot_same l j t)
@@ -65,7 +64,7 @@ rel_past l n i lt = go (rel_of l n i) refl
 -- a flow's last release is no earlier than any other
 pub rel_last : (b : Table) (l : List Call) → Accepted b l → (n i u : ℕ) → rel_of l n i ≡ Some u → (s : ℕ) × (last_of l i ≡ Some s) × (u ≤ s)
 unfolding rel_of last_of
-rel_last b [] ok n i u e = absurd (none_some u e)
+rel_last b [] ok n i u e = cc
 rel_last b (release j t ∷ l) ok n i u e =
     elim (cases_eq i j) [
       | inl same ↦
@@ -89,7 +88,7 @@ rel_last b (inject ∷ l) ok n i u e = rel_last b l ok n i u e
 -- what a run asks of its releases
 pub rel_known : (b : Table) (l : List Call) → Accepted b l → (n i u : ℕ) → rel_of l n i ≡ Some u → Flow b i
 unfolding rel_of
-rel_known b [] ok n i u e = absurd (none_some u e)
+rel_known b [] ok n i u e = cc
 rel_known b (release j t ∷ l) ok n i u e =
     elim (rel_cases l j t n i u e) [
       | inl here ↦ subst (Flow b) (sym here.1) ok.0.flow
@@ -101,7 +100,7 @@ pub rel_on_time :
     (b : Table) (l : List Call) → Accepted b l → (n i u : ℕ) → rel_of l n i ≡ Some u →
     (n * b.S + b.e i ≤ u + b.S) × (u < n * b.S + b.e i)
 unfolding rel_of
-rel_on_time b [] ok n i u e = absurd (none_some u e)
+rel_on_time b [] ok n i u e = cc
 rel_on_time b (release j t ∷ l) ok n i u e =
     elim (rel_cases l j t n i u e) [
       | inl here ↦
@@ -115,7 +114,7 @@ rel_on_time b (inject ∷ l) ok n i u e = rel_on_time b l ok n i u e
 pub rel_apart :
     (b : Table) (l : List Call) → Accepted b l → (m n i s u : ℕ) → m < n → rel_of l m i ≡ Some s → rel_of l n i ≡ Some u → s + b.T i ≤ u
 unfolding rel_of
-rel_apart b [] ok m n i s u lt e₁ e₂ = absurd (none_some s e₁)
+rel_apart b [] ok m n i s u lt e₁ e₂ = cc
 rel_apart b (release j t ∷ l) ok m n i s u lt e₁ e₂ =
     elim (rel_cases l j t n i u e₂) [
       | inl here ↦

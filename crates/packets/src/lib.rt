@@ -5,64 +5,46 @@ ghost use Rattle.packets.specs.Calls.{CallsInBound, NextFree, RowsTell, OpenPlac
 ghost use Rattle.packets.specs.Statement.{InBound, InSlots, NeverOpen};
 
 // In every run a bounded flow's packets arrive within the bound.
-pub fn in_bound() -> u8
+pub fn in_bound()
     ensures { InBound }
-{
-    0
-}
+{}
 
 // In every run a bounded flow's packet has left before the flow's next may be released.
-pub fn never_open() -> u8
+pub fn never_open()
     ensures { NeverOpen }
-{
-    0
-}
+{}
 
 // In every run a packet arrives within a number of slots that holds its parts and all that the flows above can take.
-pub fn in_slots() -> u8
+pub fn in_slots()
     ensures { InSlots }
-{
-    0
-}
+{}
 
 // After any accepted calls every packet of a bounded flow has arrived, or can still arrive, within the bound.
-pub fn calls_in_bound() -> u8
+pub fn calls_in_bound()
     ensures { CallsInBound }
-{
-    0
-}
+{}
 
 // After any accepted calls a bounded flow has no open packet when its next may be released.
-pub fn next_free() -> u8
+pub fn next_free()
     ensures { NextFree }
-{
-    0
-}
+{}
 
 // The parts left of each flow, and the place of its newest packet, tell who wants and where the open packet stands.
-pub fn rows_tell() -> u8
+pub fn rows_tell()
     ensures { RowsTell }
-{
-    0
-}
+{}
 
 // An open packet is its flow's newest, and parts of it are left.
-pub fn open_placed() -> u8
+pub fn open_placed()
     ensures { OpenPlaced }
-{
-    0
-}
+{}
 
 // A flow that wants is granted exactly when no flow above that shares a link with it is.
-pub fn decided() -> u8
+pub fn decided()
     ensures { Decided }
-{
-    0
-}
+{}
 
 // Every packet is of a flow of the table.
-pub fn flows_known() -> u8
+pub fn flows_known()
     ensures { FlowsKnown }
-{
-    0
-}
+{}

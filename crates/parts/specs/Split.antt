@@ -27,9 +27,13 @@ tail_of p hops flits = (hops - 1) * p.routing + hops * p.transfer + (flits + 1) 
 abbrev pub usable : Profile → ℕ → Bool
 usable p hops = (nat_le 1 p.transfer && nat_le 1 p.flit) && nat_le hops 64
 
+-- a part carries at least one flit
+abbrev pub carries : Profile → ℕ → ℕ → Bool
+carries p window hops = usable p hops && nat_le 1 (capacity p window hops)
+
 abbrev pub split_for : Profile → ℕ → ℕ → ℕ → Split
 split_for p window hops payload =
     record { parts = parts_of p (capacity p window hops) payload; tail = tail_of p hops (last_flits p (capacity p window hops) payload) }
 
 abbrev pub split_of : Profile → ℕ → ℕ → ℕ → Option Split
-split_of p window hops payload = cond (usable p hops && nat_le 1 (capacity p window hops)) (Some (split_for p window hops payload)) None
+split_of p window hops payload = cond (carries p window hops) (Some (split_for p window hops payload)) None

@@ -1,6 +1,6 @@
 -- One evaluation after the other of the search for a least solution. Assumes nothing.
 use Rattle.std.proofs.Common.{◌≡◌, ℕ, suc, ◌+◌, ◌-◌, ◌<◌, ◌≤◌, Bool, true, false, cond, leb, Some, None, Option, sym, refl, ap, ◌∙◌, subst, ap₂, inl, inr, arith}
-use Rattle.std.proofs.lemmas.Bool.{cond-true, cond-false, le-leb, lt-leb, leb-true, leb-false}
+use Rattle.std.proofs.lemmas.Bool.{cond-true, le-leb, leb-true, leb-false}
 use Rattle.staircase.specs.declared.search.Climb.{Climb}
 use Rattle.staircase.specs.Climbs.{climbed, Settles}
 use Rattle.timing.specs.Staircase.{Rising, climb, rounds}
@@ -66,9 +66,6 @@ module _ (f : ℕ → ℕ) (a D : ℕ) where
       let differs : f x ≡ x → ⊥ = λ e. omega arith in
       made low None (n + 1) (at.answer ∙ ap (λ k. climb f D k x) (more n x at) ∙ climb_past f D (D - n) x differs past)
       (at.count ∙ ap (λ k. n + rounds f D k x) (more n x at) ∙ ap (λ k. n + k) (rounds_stop f D (D - n) x (inr past)))
-
-  pub none_made : D < a → record { least = None; rounds = 0 } ≡ climbed f a D
-  none_made past = sym (cond-false (leb a D) (record { least = climb f D (suc D) a; rounds = rounds f D (suc D) a }) (record { least = None; rounds = 0 }) (lt-leb a D past))
 
   module _ (rising : Rising f) (ground : (x : ℕ) → a ≤ f x) where
     -- a solution is no lower than the ground

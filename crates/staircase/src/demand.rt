@@ -29,8 +29,7 @@ impl Demand {
         ensures ground { self.new.ground ≡ self.old.ground }
         ensures terms { self.new.terms.items ≡ (if is_ok result then self.old.terms.items ++ (term ∷ []) else self.old.terms.items) }
     {
-        self.terms.push(term)?;
-        Ok(())
+        Ok(self.terms.push(term)?)
     }
 }
 
@@ -47,14 +46,14 @@ impl Staircase for Demand {
         self.ground
     }
 
+    #[tactic(auto, unfolding(crate::specs::Terms::demanded))]
     fn value_within(&self, x: u32, most: u32) -> Option<u32> {
         let mut sum = self.ground;
         if sum > most {
             return None;
         }
-        for term in self.terms.as_slice() {
-            let charge = term.charge_within(x, most - sum)?;
-            sum += charge;
+        for term in &self.terms {
+            sum += term.charge_within(x, most - sum)?;
         }
         Some(sum)
     }

@@ -1,5 +1,7 @@
--- The number of each refusal of a load, and the flow and byte that it tells. Assumes nothing.
-use Rattle.std.specs.Prelude.{ℕ, Some, None, Option}
+-- The number of each refusal of a load, the flow and byte that it tells, and the line that reports it. Assumes nothing.
+use Rattle.std.specs.Prelude.{ℕ, List, [], ◌++◌, Some, None, Option, codes}
+use Rattle.std.specs.Fmt.{decimal}
+use Rattle.fabric.specs.Causes.{cause_number}
 use Rattle.table.specs.declared.fault.LoadFault.{LoadFault}
 use Rattle.table.specs.declared.fault.LoadFault.TheVariants.{NoMemory, Size, Field, Profile, Section, Record, Separation, Route, Capacity, Misfit}
 
@@ -41,3 +43,26 @@ fault_byte (Separation flow byte) = byte
 fault_byte (Route flow byte fault) = byte
 fault_byte (Capacity flow byte) = byte
 fault_byte Misfit = 0
+
+-- the end of the line: only a missing route has a hop and a cause
+abbrev pub cause_text : LoadFault → List ℕ
+cause_text NoMemory = []
+cause_text Size = []
+cause_text (Field byte) = []
+cause_text Profile = []
+cause_text (Section byte) = []
+cause_text (Record flow byte) = []
+cause_text (Separation flow byte) = []
+cause_text (Route flow byte fault) = codes " hop " ++ decimal fault.hop ++ codes " cause " ++ decimal (cause_number fault.cause)
+cause_text (Capacity flow byte) = []
+cause_text Misfit = []
+
+-- the line, where the refusal has a number
+abbrev pub numbered_line : Option ℕ → LoadFault → List ℕ
+numbered_line None fault = codes "refused: no memory"
+numbered_line (Some number) fault =
+    codes "refused " ++ decimal number ++ codes " flow " ++ decimal (fault_flow fault) ++ codes " byte " ++ decimal (fault_byte fault) ++ cause_text fault
+
+-- the one line that reports a refusal
+abbrev pub line_of : LoadFault → List ℕ
+line_of fault = numbered_line (fault_number fault) fault

@@ -1,6 +1,6 @@
 -- What the bytes of a flow table mean. Assumes nothing.
 --   header_of: the header, 32 bytes
---   flow_at, link_at, entry_at, numberAt: the record that begins at a byte
+--   flow_at, link_at, entry_at, u16_at: the record that begins at a byte
 --   flows_of, links_of, entries_of, numbers_of: the sections
 use Rattle.std.specs.Prelude.{ℕ, ◌+◌, ◌*◌, List, map}
 use Rattle.std.specs.List.{range_with_len}

@@ -5,16 +5,14 @@ ghost use Rattle.table.specs.Bytes.{u16_at, u32_at};
 fn byte_at(bytes: &[u8], at: usize) -> u8
     ensures { result ≡ slice_index bytes.now at }
 {
-    if at < bytes.len() { bytes[at] } else { 0 }
+    bytes.get(at).copied().unwrap_or(0)
 }
 
 pub(crate) fn u16_at(bytes: &[u8], at: usize) -> u16
     requires { at < 2 ^ 41 }
     ensures { result ≡ u16_at bytes.now at }
 {
-    let low = byte_at(bytes, at);
-    let high = byte_at(bytes, at + 1);
-    u16::from(low) + 256 * u16::from(high)
+    u16::from_le_bytes([byte_at(bytes, at), byte_at(bytes, at + 1)])
 }
 
 pub(crate) fn u32_at(bytes: &[u8], at: usize) -> u32

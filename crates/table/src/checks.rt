@@ -9,7 +9,7 @@ use crate::profile::Profile;
 fn check_size(len: usize) -> Result<(), LoadFault>
     ensures { result ≡ unless (first_fault (size_checks len)) tt }
 {
-    if len < 32 || len > 65535 {
+    if !(32..=65535).contains(&len) {
         return Err(LoadFault::Size);
     }
     Ok(())
@@ -19,11 +19,11 @@ fn check_size(len: usize) -> Result<(), LoadFault>
 fn check_shape(header: &Header) -> Result<(), LoadFault>
     ensures { result ≡ unless (first_fault (shape_checks header.now)) tt }
 {
-    if header.flows < 1 || header.flows > 128 {
+    if !(1..=128).contains(&header.flows) {
         return Err(LoadFault::Field { byte: 0 });
     }
     let nodes = u32::from(header.width) * u32::from(header.height);
-    if nodes < 1 || nodes > 256 {
+    if !(1..=256).contains(&nodes) {
         return Err(LoadFault::Field { byte: 2 });
     }
     if header.spare > 4095 {
@@ -69,9 +69,7 @@ fn check_reserved(header: &Header) -> Result<(), LoadFault>
 fn check_profile(header: &Header) -> Result<(), LoadFault>
     ensures { result ≡ unless (first_fault (profile_checks header.now)) tt }
 {
-    if Profile::numbered(header.profile).is_none() {
-        return Err(LoadFault::Profile);
-    }
+    Profile::try_from(header.profile)?;
     Ok(())
 }
 

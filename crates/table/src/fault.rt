@@ -1,6 +1,6 @@
 // Why a flow table is refused.
-ghost use Rattle.std.specs.Prelude.{◌≡◌};
-ghost use Rattle.table.specs.Faults.{fault_number, fault_flow, fault_byte};
+ghost use Rattle.std.specs.Prelude.{◌≡◌, Some};
+ghost use Rattle.table.specs.Faults.{fault_number, fault_flow, fault_byte, line_of};
 ghost use Rattle.table.specs.declared.fault.LoadFault.TheVariants.{NoMemory};
 
 use fabric::fault::RouteFault;
@@ -72,10 +72,10 @@ impl LoadFault {
         ensures { result ≡ fault_flow self }
     {
         match self {
-            LoadFault::Record { flow, .. } => flow,
-            LoadFault::Separation { flow, .. } => flow,
-            LoadFault::Route { flow, .. } => flow,
-            LoadFault::Capacity { flow, .. } => flow,
+            LoadFault::Record { flow, .. }
+            | LoadFault::Separation { flow, .. }
+            | LoadFault::Route { flow, .. }
+            | LoadFault::Capacity { flow, .. } => flow,
             _ => 0,
         }
     }
@@ -85,13 +85,13 @@ impl LoadFault {
         ensures { result ≡ fault_byte self }
     {
         match self {
-            LoadFault::Field { byte } => byte,
             LoadFault::Profile => 6,
-            LoadFault::Section { byte } => byte,
-            LoadFault::Record { byte, .. } => byte,
-            LoadFault::Separation { byte, .. } => byte,
-            LoadFault::Route { byte, .. } => byte,
-            LoadFault::Capacity { byte, .. } => byte,
+            LoadFault::Field { byte }
+            | LoadFault::Section { byte }
+            | LoadFault::Record { byte, .. }
+            | LoadFault::Separation { byte, .. }
+            | LoadFault::Route { byte, .. }
+            | LoadFault::Capacity { byte, .. } => byte,
             _ => 0,
         }
     }
@@ -113,30 +113,21 @@ impl<T: Drop> From<AllocFailed<T>> for LoadFault {
     }
 }
 
-fn write_refusal<W: fmt::Write>(
-    f: &mut fmt::Formatter<W>,
-    number: u8,
-    flow: usize,
-    byte: usize,
-) -> fmt::Result {
-    write!(f, "refused {number} flow {flow} byte {byte}")
-}
-
-fn write_cause<W: fmt::Write>(f: &mut fmt::Formatter<W>, fault: RouteFault) -> fmt::Result {
-    let hop = fault.hop;
-    let cause = fault.cause.number();
-    write!(f, " hop {hop} cause {cause}")
-}
-
 // The one line that reports a refusal; only a missing route has a hop and a cause.
 impl fmt::Display for LoadFault {
+    ghost output = { λ fault. Some (line_of fault) };
+
     fn fmt<W: fmt::Write>(&self, f: &mut fmt::Formatter<W>) -> fmt::Result {
         let Some(number) = self.number() else {
             return f.write_str("refused: no memory");
         };
-        write_refusal(f, number, self.flow(), self.byte())?;
+        let (flow, byte) = (self.flow(), self.byte());
+        write!(f, "refused {number} flow {flow} byte {byte}")?;
         match self {
-            LoadFault::Route { fault, .. } => write_cause(f, *fault),
+            LoadFault::Route { fault, .. } => {
+                let (hop, cause) = (fault.hop, fault.cause.number());
+                write!(f, " hop {hop} cause {cause}")
+            }
             _ => Ok(()),
         }
     }

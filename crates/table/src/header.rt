@@ -30,6 +30,7 @@ pub struct Header {
 
 impl Header {
     // The header that the first 32 bytes mean, checked or not; a byte that is not there counts as 0.
+    #[tactic(auto, unfolding(crate::specs::File::header_of))]
     pub fn read(bytes: &[u8]) -> Header
         ensures { result ≡ header_of bytes.now }
     {

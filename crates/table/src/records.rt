@@ -34,29 +34,27 @@ trait FileRecord {
     ghost meaning: { List ℕ → ℕ → Self };
 
     // how many bytes it has
-    ghost width: { ℕ };
+    const WIDTH: usize;
 
-    fn width() -> usize
-        ensures { result ≡ width };
+    ghost WIDTH: { ℕ };
 
     fn read(bytes: &[u8], at: usize) -> Self
         requires { at < 2 ^ 39 }
         ensures { result ≡ meaning bytes.now at };
 
-    ghost small: { width ≤ 16 };
+    ghost small: { WIDTH ≤ 16 };
 }
 
 impl FileRecord for FlowRecord {
     ghost meaning = { flow_at };
 
-    ghost width = { 16 };
+    const WIDTH: usize = 16;
+
+    ghost WIDTH = { 16 };
 
     ghost small = { Prim.search rules };
 
-    fn width() -> usize {
-        16
-    }
-
+    #[tactic(auto, unfolding(crate::specs::File::flow_at))]
     fn read(bytes: &[u8], at: usize) -> FlowRecord {
         FlowRecord {
             source: u16_at(bytes, at),
@@ -71,14 +69,13 @@ impl FileRecord for FlowRecord {
 impl FileRecord for Ends {
     ghost meaning = { link_at };
 
-    ghost width = { 4 };
+    const WIDTH: usize = 4;
+
+    ghost WIDTH = { 4 };
 
     ghost small = { Prim.search rules };
 
-    fn width() -> usize {
-        4
-    }
-
+    #[tactic(auto, unfolding(crate::specs::File::link_at))]
     fn read(bytes: &[u8], at: usize) -> Ends {
         Ends {
             start: usize::from(u16_at(bytes, at)),
@@ -90,14 +87,13 @@ impl FileRecord for Ends {
 impl FileRecord for RouteEntry {
     ghost meaning = { entry_at };
 
-    ghost width = { 4 };
+    const WIDTH: usize = 4;
+
+    ghost WIDTH = { 4 };
 
     ghost small = { Prim.search rules };
 
-    fn width() -> usize {
-        4
-    }
-
+    #[tactic(auto, unfolding(crate::specs::File::entry_at))]
     fn read(bytes: &[u8], at: usize) -> RouteEntry {
         RouteEntry {
             length: u16_at(bytes, at),
@@ -109,13 +105,11 @@ impl FileRecord for RouteEntry {
 impl FileRecord for u16 {
     ghost meaning = { u16_at };
 
-    ghost width = { 2 };
+    const WIDTH: usize = 2;
+
+    ghost WIDTH = { 2 };
 
     ghost small = { Prim.search rules };
-
-    fn width() -> usize {
-        2
-    }
 
     fn read(bytes: &[u8], at: usize) -> u16 {
         u16_at(bytes, at)
@@ -129,18 +123,14 @@ fn read_section<R: FileRecord + Drop>(
     at: u32,
     count: u16,
 ) -> Result<Vec<R>, AllocError>
-    ensures { IfOk result (λ v. v.items ≡ records_at (R.FileRecord.meaning bytes.now) R.FileRecord.width at count) }
+    ensures { IfOk result (λ v. v.items ≡ records_at (R.FileRecord.meaning bytes.now) R.FileRecord.WIDTH at count) }
 {
-    let mut section = Vec::new(heap);
-    let mut place = at as usize;
-    for _i in 0..count {
-        section.push(R::read(bytes, place))?;
-        place += R::width();
-    }
-    Ok(section)
+    (0..count)
+        .map(|i| R::read(bytes, at as usize + R::WIDTH * usize::from(i)))
+        .collect(heap)
 }
 
-// The flow records.
+// The flow records. Each of these four names a section's record, place and count once, which at its calls would be no plainer.
 pub fn read_flows(
     heap: Global,
     bytes: &[u8],

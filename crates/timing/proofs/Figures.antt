@@ -7,7 +7,7 @@ use Rattle.timing.specs.Model.{Table, Flow, Lawful, within, figure, alone, jitte
 use Rattle.timing.specs.Staircase.{Least, climb, rounds, Searched}
 use Rattle.timing.specs.Figures.{base, settled, searched, figure_of, bounds_to, bound_of, rounds_of, Exact, FiguresExact}
 use Rattle.timing.proofs.Sums.{sum_eq, every_true, every_eq, every_from}
-use Rattle.timing.proofs.Options.{cases_option, none_some}
+use Rattle.timing.proofs.Options.{cases_option}
 use Rattle.timing.proofs.Staircase.{search_finds, demand_rises}
 
 is_some : (o : Option ℕ) → option_is_some o ≡ true → (y : ℕ) × (o ≡ Some y)
@@ -116,7 +116,7 @@ module _ (b : Table) (law : Lawful b) (i : ℕ) where
             let q = basis yes-searched in
             (q, (searching q).found x (sym (cond-true (searched b (bound_of b) i) (climb F (b.D i) (suc (b.D i)) (base b i)) None yes-searched) ∙ at))
         | inr not-searched ↦
-            absurd (none_some x (sym (cond-false (searched b (bound_of b) i) (climb F (b.D i) (suc (b.D i)) (base b i)) None not-searched) ∙ at))
+            let none = cond-false (searched b (bound_of b) i) (climb F (b.D i) (suc (b.D i)) (base b i)) None not-searched in cc
       ]
 
   -- where a search is made the bound is its answer

@@ -7,7 +7,6 @@ use Rattle.timing.specs.Staircase.{Rising, Least, climb, rounds, SearchFinds, De
 use Rattle.timing.proofs.Ceil.{ceil_mono}
 use Rattle.timing.proofs.Sums.{sum_le}
 use Rattle.timing.proofs.Equation.{delays}
-use Rattle.timing.proofs.Options.{some_inj, none_some}
 
 module _ (f : ℕ → ℕ) (D : ℕ) where
   -- the three ways of one evaluation
@@ -51,15 +50,16 @@ module _ (f : ℕ → ℕ) (D : ℕ) where
   module _ (rising : Rising f) where
     -- nothing below x solves
     pub found : (k x : ℕ) → x ≤ D → ((y : ℕ) → f y ≡ y → x ≤ y) → (r : ℕ) → climb f D k x ≡ Some r → Least f D r
-    found zero x le low r e = absurd (none_some r (sym (climb_none x) ∙ e))
+    found zero x le low r e = let none = climb_none x in cc
     found (suc k) x le low r e =
         elim (cases_eq (f x) x) [
           | inl same ↦
-              let at : x ≡ r = some_inj x r (sym (climb_here k x same) ∙ e) in
+              let here = climb_here k x same in
+              let at : x ≡ r = cc in
               subst (Least f D) at (record { solves = same; within = le; least = low })
           | inr ne ↦
               elim (cases_lt D (f x)) [
-                | inl past ↦ absurd (none_some r (sym (climb_past k x ne past) ∙ e))
+                | inl past ↦ let none = climb_past k x ne past in cc
                 | inr on ↦ found k (f x) on (λ y s. omega (arith, rising x y (low y s))) r (sym (climb_on k x ne on) ∙ e)
               ]
         ]
@@ -69,7 +69,7 @@ module _ (f : ℕ → ℕ) (D : ℕ) where
     missed zero x up fuel low e y s = omega (arith, low y s)
     missed (suc k) x up fuel low e y s =
         elim (cases_eq (f x) x) [
-          | inl same ↦ absurd (none_some x (sym e ∙ climb_here k x same))
+          | inl same ↦ let here = climb_here k x same in cc
           | inr ne ↦
               let next : f x ≤ y = omega (arith, rising x y (low y s)) in
               elim (cases_lt D (f x)) [

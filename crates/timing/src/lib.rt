@@ -5,22 +5,16 @@ ghost use Rattle.timing.specs.Figures.{FiguresExact};
 ghost use Rattle.timing.specs.Staircase.{SearchFinds, DemandRises};
 
 // The search for the least solution of a staircase finds it, or tells that there is none, in few evaluations.
-pub fn search_finds() -> u8
+pub fn search_finds()
     ensures { SearchFinds }
-{
-    0
-}
+{}
 
 // The right side of a bound's equation is such a staircase.
-pub fn demand_rises() -> u8
+pub fn demand_rises()
     ensures { DemandRises }
-{
-    0
-}
+{}
 
 // The bounds of a table are the least solutions of their equations, and exist exactly when they should.
-pub fn figures_exact() -> u8
+pub fn figures_exact()
     ensures { FiguresExact }
-{
-    0
-}
+{}

@@ -21,18 +21,12 @@ impl Term {
     }
 
     // The charge for a window of x cycles, or none where it passes `most`.
+    #[tactic(auto, unfolding(crate::specs::Terms::charge, timing::specs::Counts::ceil_div))]
     pub fn charge_within(&self, x: u32, most: u32) -> Option<u32>
         ensures { result ≡ within most (charge x self.now) }
     {
         let touched = (u64::from(x) + u64::from(self.jitter)).div_ceil(u64::from(self.separation));
-        match touched.checked_mul(self.cost) {
-            Some(charge) => {
-                if charge > u64::from(most) {
-                    return None;
-                }
-                Some(charge as u32)
-            }
-            None => None,
-        }
+        let charge = touched.checked_mul(self.cost)?;
+        u32::try_from(charge).ok().filter(|charge| *charge <= most)
     }
 }

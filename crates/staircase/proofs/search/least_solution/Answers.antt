@@ -1,16 +1,7 @@
-use Rattle.std.proofs.Common.{◌<◌, sym, ◌∙◌, arith}
-use Rattle.staircase.proofs.Steps.{goes_on, ends_here, ends_past, none_made, settled}
+use Rattle.std.proofs.Common.{sym, ◌∙◌}
+use Rattle.staircase.proofs.Steps.{goes_on, ends_here, ends_past, settled}
 use Rattle.staircase.proofs.Limits.{within_some, within_none}
 use Rattle.staircase.proofs.search.least_solution.Goals as goal
-
-pub returns-then-x-most : goal.returns-then-x-most
-returns-then-x-most g c =
-    let f = g.S.Staircase.value c.args.stairs.now in
-    let m = g.met.S.Staircase in
-    let a = g.S.Staircase.floor c.args.stairs.now in
-    let past : c.args.most < a = omega (arith, c.ground-x.ensures, c.if-x-most.true) in
-    let e = none_made f a _ past in
-    record { answer = e; least = settled f a _ (m.rises _) (m.grounded _) _ e }
 
 pub returns-in_default : goal.returns-in_default
 returns-in_default g c =
