@@ -3,7 +3,8 @@
 --   entry_checks, hop_checks: what is looked at in an entry and in a hop, in this order, and the cause that is told
 --   walk_fault: the first fault of the hops in turn, and then of the end
 --   listed_route: the route, or its first fault
-use Rattle.std.specs.Prelude.{ℕ, ◌+◌, ◌-◌, ◌*◌, Bool, false, cond, not, ◌||◌, List, [], ◌∷◌, ◌++◌, length, take, drop, Some, None, Ok, Err, Option, ◌==◌, nat_le, nat_lt, slice_index_or}
+use Rattle.std.specs.Prelude.{ℕ, ◌+◌, ◌-◌, ◌*◌, Bool, cond, not, ◌||◌, List, [], ◌∷◌, ◌++◌, length, take, drop, Some, None, Ok, Err, Option, ◌==◌, nat_le, nat_lt, slice_index_or}
+use Rattle.std.specs.List.{list_any}
 use Rattle.fabric.specs.Routes.{Route}
 use Rattle.fabric.specs.declared.route.Ends.{Ends}
 use Rattle.fabric.specs.declared.fault.Cause.{Cause}
@@ -23,8 +24,7 @@ numbers_at numbers entry = take entry.length (drop entry.position numbers)
 
 -- n stands among the links used
 abbrev pub among : List ℕ → ℕ → Bool
-among [] n = false
-among (u ∷ us) n = u == n || among us n
+among used n = list_any (λ u. u == n) used
 
 -- the cause of the first check that fails
 abbrev pub first_cause : List (Bool × Cause) → Option Cause

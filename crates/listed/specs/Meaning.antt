@@ -1,8 +1,8 @@
 -- What a listed fabric means. Assumes nothing.
 --   checks_of: what is looked at before the first hop of a flow's route
---   flow_numbers: the numbers that a flow's entry points at; Points: they are there
+--   flow_numbers: the numbers that a flow's entry points at
 --   route_of: the route of a flow
-use Rattle.std.specs.Prelude.{ℕ, ◌+◌, ◌<◌, ◌≤◌, Bool, List, length, vec_items}
+use Rattle.std.specs.Prelude.{ℕ, Bool, List, length, vec_items}
 use Rattle.fabric.specs.Routes.{Route}
 use Rattle.fabric.specs.declared.fault.Cause.{Cause}
 use Rattle.listed.specs.declared.Listed.{Listed}
@@ -10,12 +10,6 @@ use Rattle.listed.specs.ListedRoutes.{entry_of, numbers_at, entry_checks, listed
 
 abbrev pub checks_of : Listed → ℕ → ℕ → ℕ → List (Bool × Cause)
 checks_of l flow s d = entry_checks l.nodes (vec_items l.entries) (length (vec_items l.numbers)) flow s d
-
--- flow i has an entry, and what it points at stands in the number list
-abbrev pub Points : Listed → ℕ → Type 0
-Points l flow =
-    let entry = entry_of (vec_items l.entries) flow in
-    (0 < flow) × (flow ≤ length (vec_items l.entries)) × (entry.position + entry.length ≤ length (vec_items l.numbers))
 
 abbrev pub flow_numbers : Listed → ℕ → List ℕ
 flow_numbers l flow = numbers_at (vec_items l.numbers) (entry_of (vec_items l.entries) flow)

@@ -1,8 +1,9 @@
 -- A walk without a fault keeps the laws of routes.
 use Rattle.std.specs.Prelude.{◌≡◌, ℕ, zero, suc, ◌<◌, false, List, [], ◌∷◌, ◌++◌, length, Some, None, Option, ◌==◌, ◌≢◌, slice_index, refl}
-use Rattle.std.proofs.Common.{sym, arith}
+use Rattle.std.proofs.Common.{sym, ◌∙◌, arith}
 use Rattle.std.proofs.lemmas.Bool.{or_parts, eqb-false}
 use Rattle.std.proofs.lemmas.Bool.Decides.{nat_tests}
+use Rattle.std.proofs.lemmas.List.Folds.{list_any-append}
 use Rattle.fabric.specs.declared.route.Ends.{Ends}
 use Rattle.fabric.specs.declared.fault.Cause.{Cause}
 use Rattle.fabric.specs.declared.fault.RouteFault.{RouteFault}
@@ -13,11 +14,7 @@ told_none hop None later e = (refl, e)
 told_none hop (Some cause) later e = let z : ◌≡◌ {A = ℕ} 0 1 = cc in absurd (omega arith)
 
 among_append : (us vs : List ℕ) (n : ℕ) → among (us ++ vs) n ≡ false → (among us n ≡ false) × (among vs n ≡ false)
-among_append [] vs n e = (refl, e)
-among_append (u ∷ us) vs n e =
-    let parts = or_parts (u == n) (among (us ++ vs) n) e in
-    let rest = among_append us vs n parts.1 in
-    (grind (arith, nat_tests), rest.1)
+among_append us vs n e = or_parts (among us n) (among vs n) (sym (list_any-append (λ u. u == n) us vs) ∙ e)
 
 -- what the checks of a hop by link n tell, where none of them fails
 record Hop (links : List Ends) (used : List ℕ) (at n : ℕ) : Type 0 where

@@ -10,6 +10,7 @@ use crate::Listed;
 use fabric::fabric::Fabric;
 use fabric::fault::RouteFault;
 use fabric::route::Ends;
+use fabric::trip::Trip;
 
 impl Fabric for Listed {
     ghost nodes = { λ l. l.nodes };
@@ -30,38 +31,16 @@ impl Fabric for Listed {
         self.nodes
     }
 
-    fn route_len(
-        &self,
-        flow: usize,
-        source: usize,
-        destination: usize,
-    ) -> Result<usize, RouteFault> {
-        let numbers = self.find_route(flow, source, destination)?;
-        Ok(numbers.len())
+    fn route_len(&self, trip: Trip) -> Result<usize, RouteFault> {
+        Ok(self.find_route(trip)?.len())
     }
 
-    fn route_link(
-        &self,
-        flow: usize,
-        source: usize,
-        destination: usize,
-        k: usize,
-    ) -> Option<usize> {
-        let Ok(numbers) = self.find_route(flow, source, destination) else {
-            return None;
-        };
-        if k < numbers.len() {
-            Some(numbers[k] as usize)
-        } else {
-            None
-        }
+    fn route_link(&self, trip: Trip, k: usize) -> Option<usize> {
+        let numbers = self.find_route(trip).ok()?;
+        numbers.get(k).copied().map(usize::from)
     }
 
     fn link_ends(&self, link: usize) -> Option<Ends> {
-        if link < self.links.len() {
-            Some(self.links[link])
-        } else {
-            None
-        }
+        self.links.get(link).copied()
     }
 }

@@ -33,7 +33,7 @@ impl Listed {
         let entries = listed_entries(heap, bytes, &header)?;
         let numbers = read_numbers(heap, bytes, &header)?;
         Ok(Listed {
-            nodes: header.width as usize * header.height as usize,
+            nodes: usize::from(header.width) * usize::from(header.height),
             links,
             entries,
             numbers,

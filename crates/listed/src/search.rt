@@ -1,69 +1,43 @@
 // The search for a flow's route: its entry, the numbers that this points at, and their hops.
-ghost use Rattle.std.specs.Prelude.{◌≡◌, ◌<◌, ◌≤◌, length};
-ghost use Rattle.std.specs.Result.{result_map_both};
-ghost use Rattle.listed.specs.ListedRoutes.{entry_of, first_cause};
-ghost use Rattle.listed.specs.Meaning.{Points, checks_of, flow_numbers, route_of};
+ghost use Rattle.std.specs.Prelude.{◌≡◌, IfOk};
+ghost use Rattle.std.specs.Result.{result_map_both, result_err};
+ghost use Rattle.listed.specs.ListedRoutes.{first_cause};
+ghost use Rattle.listed.specs.Meaning.{checks_of, flow_numbers, route_of};
 
 use crate::Listed;
-use crate::hops::walk_fault;
+use crate::hops::walk;
 use fabric::fault::{Cause, RouteFault};
-use table::records::RouteEntry;
+use fabric::trip::Trip;
 
 impl Listed {
-    // The entry of a flow that has one.
-    fn entry_of(&self, flow: usize) -> RouteEntry
-        requires { (0 < flow) × (flow ≤ length self.now.entries.items) }
-        ensures { result ≡ entry_of self.now.entries.items flow }
+    // The numbers that the entry of a trip's flow points at; or why there are none, as far as nodes and entry tell.
+    fn listed_numbers(&self, trip: Trip) -> Result<&[u16], Cause>
+        ensures fault { result_err result ≡ first_cause (checks_of self.now trip.flow trip.source trip.destination) }
+        ensures listed { IfOk result (λ numbers. numbers.now ≡ flow_numbers self.now trip.flow) }
     {
-        self.entries[flow - 1]
-    }
-
-    // Why there is no route, as far as its nodes and its entry tell.
-    fn entry_cause(&self, flow: usize, source: usize, destination: usize) -> Option<Cause>
-        ensures { result ≡ first_cause (checks_of self.now flow source destination) }
-    {
-        if source >= self.nodes || destination >= self.nodes {
-            return Some(Cause::UnknownNode);
+        if trip.source >= self.nodes || trip.destination >= self.nodes {
+            return Err(Cause::UnknownNode);
         }
-        if flow == 0 || flow > self.entries.len() {
-            return Some(Cause::Length);
+        // flow i has entry i - 1
+        let place = trip.flow.checked_sub(1).ok_or(Cause::Length)?;
+        let entry = self.entries.get(place).ok_or(Cause::Length)?;
+        if !(2..=64).contains(&entry.length) {
+            return Err(Cause::Length);
         }
-        let entry = self.entry_of(flow);
-        if entry.length < 2 || entry.length > 64 {
-            return Some(Cause::Length);
-        }
-        if entry.position as usize + entry.length as usize > self.numbers.len() {
-            return Some(Cause::List);
-        }
-        None
-    }
-
-    // The numbers that a flow's entry points at.
-    fn listed_numbers(&self, flow: usize) -> &[u16]
-        requires { Points self.now flow }
-        ensures { result.now ≡ flow_numbers self.now flow }
-    {
-        let entry = self.entry_of(flow);
-        let first = entry.position as usize;
-        &self.numbers[first..first + entry.length as usize]
+        let first = usize::from(entry.position);
+        let end = first + usize::from(entry.length);
+        self.numbers.get(first..end).ok_or(Cause::List)
     }
 
     // The links of a flow's route, or why there is none.
-    pub(crate) fn find_route(
-        &self,
-        flow: usize,
-        source: usize,
-        destination: usize,
-    ) -> Result<&[u16], RouteFault>
-        ensures { result_map_both (λ x. x.now) (λ fault. fault) result ≡ route_of self.now flow source destination }
+    #[tactic(auto, unfolding(crate::specs::ListedRoutes::listed_route))]
+    pub(crate) fn find_route(&self, trip: Trip) -> Result<&[u16], RouteFault>
+        ensures { result_map_both (λ x. x.now) (λ fault. fault) result ≡ route_of self.now trip.flow trip.source trip.destination }
     {
-        if let Some(cause) = self.entry_cause(flow, source, destination) {
-            return Err(RouteFault { hop: 0, cause });
-        }
-        let numbers = self.listed_numbers(flow);
-        match walk_fault(&self.links, numbers, 2 * source, 2 * destination) {
-            None => Ok(numbers),
-            Some(fault) => Err(fault),
-        }
+        let numbers = self
+            .listed_numbers(trip)
+            .map_err(|cause| RouteFault { hop: 0, cause })?;
+        walk(&self.links, numbers, 2 * trip.source, 2 * trip.destination)?;
+        Ok(numbers)
     }
 }

@@ -1,15 +1,12 @@
 -- A mesh's route is its path, where both nodes are there and the path is not too long.
 use Rattle.std.specs.Prelude.{◌≡◌, ℕ, ◌*◌, ◌<◌, ◌≤◌, Bool, true, false, cond, ◌&&◌, ◌⊎◌, List, length, Ok, nat_le, refl}
-use Rattle.std.proofs.Common.{subst, ⊎_elim, arith, mul-pos}
+use Rattle.std.proofs.Common.{subst, ⊎_elim, arith}
 use Rattle.std.proofs.lemmas.Bool.{cond-false, and_parts, and_left, and_right, le-ltb, ltb-true, leb-true}
 use Rattle.fabric.specs.Routes.{Lawful, unknown_node}
 use Rattle.mesh.specs.Grid.{has}
 use Rattle.mesh.specs.Links.{mesh_ends}
 use Rattle.mesh.specs.Paths.{mesh_path, mesh_route, too_long}
 use Rattle.mesh.specs.Laws.{path_lawful}
-
-pub size_some : (w h : ℕ) → 1 ≤ w → 1 ≤ h → 1 ≤ w * h
-size_some w h wide high = mul-pos wide high
 
 pub node_known : (w h s d : ℕ) → (w * h ≤ s) ⊎ (w * h ≤ d) → mesh_route w h s d ≡ unknown_node
 node_known w h s d missing =

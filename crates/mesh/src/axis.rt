@@ -1,15 +1,41 @@
 // Steps along one axis of a mesh.
-ghost use Rattle.std.specs.Prelude.{◌≡◌, ◌≤◌, max};
-ghost use Rattle.mesh.specs.Grid.{toward};
+ghost use Rattle.std.specs.Prelude.{◌≡◌, ◌≤◌, max, nat_lt, if◌then◌else◌};
+ghost use Rattle.mesh.specs.Grid.{distance, toward};
 
-// So many steps from one column or row toward another, no further than that one.
-pub(crate) fn walked(from: usize, to: usize, steps: usize) -> usize
-    ensures value { result ≡ toward from to steps }
-    ensures within { result ≤ max from to }
-{
-    if from < to {
-        from + steps.min(to - from)
-    } else {
-        from - steps.min(from - to)
+use crate::direction::Direction;
+
+// A leg of a walk: along one axis, from a column or row to another.
+#[derive(Clone, Copy)]
+pub(crate) struct Leg {
+    pub from: usize,
+    pub to: usize,
+}
+
+impl Leg {
+    // How many steps it has.
+    pub(crate) fn steps(self) -> usize
+        ensures value { result ≡ distance self.from self.to }
+        ensures within { result ≤ max self.from self.to }
+    {
+        self.from.abs_diff(self.to)
+    }
+
+    // Where so many steps along it lead, no further than to its end.
+    pub(crate) fn walked(self, steps: usize) -> usize
+        ensures value { result ≡ toward self.from self.to steps }
+        ensures within { result ≤ max self.from self.to }
+    {
+        if self.from < self.to {
+            self.from + steps.min(self.to - self.from)
+        } else {
+            self.from - steps.min(self.from - self.to)
+        }
+    }
+
+    // The direction of its steps, of the two along its axis: up where its end is above, else down.
+    pub(crate) fn heading(self, up: Direction, down: Direction) -> Direction
+        ensures { result ≡ (if nat_lt self.from self.to then up else down) }
+    {
+        if self.from < self.to { up } else { down }
     }
 }

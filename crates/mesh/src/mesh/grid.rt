@@ -28,6 +28,7 @@ impl Mesh {
         node % self.width
     }
 
+    #[tactic(auto, using(crate::specs::Walk::row_below))]
     pub(crate) fn row(&self, node: usize) -> usize
         requires { node < self.now.width * self.now.height }
         ensures value { result ≡ row self.now.width node }
@@ -37,6 +38,7 @@ impl Mesh {
     }
 
     // The node in a column and a row.
+    #[tactic(auto, using(std::proofs::lemmas::Nat::rows))]
     pub(crate) fn node_at(&self, x: usize, y: usize) -> usize
         requires { (x < self.now.width) × (y < self.now.height) }
         ensures value { result ≡ node_at self.now.width x y }

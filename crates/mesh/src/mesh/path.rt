@@ -1,99 +1,100 @@
 // The links of a route, one by one: along x first, then along y.
-ghost use Rattle.std.specs.Prelude.{◌≡◌, ◌+◌, ◌*◌, ◌<◌, length, slice_index};
-ghost use Rattle.mesh.specs.Grid.{Both};
-ghost use Rattle.mesh.specs.Links.{in_link};
-ghost use Rattle.mesh.specs.Paths.{steps_x, steps_y, visited, heading, step_link, mesh_path};
+ghost use Rattle.std.specs.Prelude.{◌≡◌, ◌*◌, ◌<◌, length, max, Ok};
+ghost use Rattle.mesh.specs.Grid.{Both, column, row};
+ghost use Rattle.mesh.specs.Paths.{visited, heading, step_link};
 
 use super::Mesh;
-use crate::axis::walked;
+use crate::axis::Leg;
 use crate::direction::Direction;
+use fabric::trip::Trip;
 
-impl Mesh {
-    // How many steps a route makes along x, and along y.
-    pub(crate) fn steps_x(&self, source: usize, destination: usize) -> usize
-        ensures value { result ≡ steps_x self.now.width source destination }
-        ensures within { result < self.now.width }
+// A trip between two nodes of a mesh.
+#[derive(Clone, Copy)]
+pub(crate) struct Walk<'a> {
+    pub mesh: &'a Mesh,
+    pub trip: Trip,
+    ghost both: { Both mesh.now.width mesh.now.height trip.source trip.destination },
+}
+
+impl Walk<'_> {
+    ghost use Rattle.fabric.specs.Routes.{link_of};
+    ghost use Rattle.mesh.specs.Trips.{walk_links};
+
+    // Its leg along x, and the one along y.
+    fn along_x(&self) -> Leg
+        ensures from { result.from ≡ column self.now.mesh.now.width self.now.trip.source }
+        ensures to { result.to ≡ column self.now.mesh.now.width self.now.trip.destination }
+        ensures within { max result.from result.to < self.now.mesh.now.width }
     {
-        self.column(source).abs_diff(self.column(destination))
+        Leg {
+            from: self.mesh.column(self.trip.source),
+            to: self.mesh.column(self.trip.destination),
+        }
     }
 
-    pub(crate) fn steps_y(&self, source: usize, destination: usize) -> usize
-        requires { Both self.now.width self.now.height source destination }
-        ensures value { result ≡ steps_y self.now.width source destination }
-        ensures within { result < self.now.height }
+    fn along_y(&self) -> Leg
+        ensures from { result.from ≡ row self.now.mesh.now.width self.now.trip.source }
+        ensures to { result.to ≡ row self.now.mesh.now.width self.now.trip.destination }
+        ensures within { max result.from result.to < self.now.mesh.now.height }
     {
-        self.row(source).abs_diff(self.row(destination))
+        Leg {
+            from: self.mesh.row(self.trip.source),
+            to: self.mesh.row(self.trip.destination),
+        }
     }
 
     // The node where a step begins.
-    pub(crate) fn visited(&self, source: usize, destination: usize, step: usize) -> usize
-        requires { Both self.now.width self.now.height source destination }
-        ensures value { result ≡ visited self.now.width source destination step }
-        ensures within { result < self.now.width * self.now.height }
+    fn visited(&self, step: usize) -> usize
+        ensures value { result ≡ visited self.now.mesh.now.width self.now.trip.source self.now.trip.destination step }
+        ensures within { result < self.now.mesh.now.width * self.now.mesh.now.height }
     {
-        let past_x = step.saturating_sub(self.steps_x(source, destination));
-        let x = walked(self.column(source), self.column(destination), step);
-        let y = walked(self.row(source), self.row(destination), past_x);
-        self.node_at(x, y)
+        let x = self.along_x();
+        let past_x = step.saturating_sub(x.steps());
+        self.mesh
+            .node_at(x.walked(step), self.along_y().walked(past_x))
     }
 
     // The direction of a step.
-    pub(crate) fn heading(&self, source: usize, destination: usize, step: usize) -> Direction
-        requires { Both self.now.width self.now.height source destination }
-        ensures { result ≡ heading self.now.width source destination step }
+    fn heading(&self, step: usize) -> Direction
+        ensures { result ≡ heading self.now.mesh.now.width self.now.trip.source self.now.trip.destination step }
     {
-        if step < self.steps_x(source, destination) {
-            if self.column(source) < self.column(destination) {
-                Direction::East
-            } else {
-                Direction::West
-            }
-        } else if self.row(source) < self.row(destination) {
-            Direction::North
+        let x = self.along_x();
+        if step < x.steps() {
+            x.heading(Direction::East, Direction::West)
         } else {
-            Direction::South
+            self.along_y().heading(Direction::North, Direction::South)
         }
     }
 
     // The link of a step.
-    pub(crate) fn step_link(&self, source: usize, destination: usize, step: usize) -> usize
-        requires { Both self.now.width self.now.height source destination }
-        ensures { result ≡ step_link self.now.width self.now.height source destination step }
+    fn step_link(&self, step: usize) -> usize
+        ensures { let mesh = self.now.mesh.now in result ≡ step_link mesh.width mesh.height self.now.trip.source self.now.trip.destination step }
     {
-        let node = self.visited(source, destination, step);
-        let to = self.heading(source, destination, step);
-        2 * self.size() + 4 * node + to.number()
+        2 * self.mesh.size() + 4 * self.visited(step) + self.heading(step) as usize
     }
 
-    // The link into a node's core.
-    pub(crate) fn in_link(&self, node: usize) -> usize
-        requires { node < self.now.width * self.now.height }
-        ensures { result ≡ in_link self.now.width self.now.height node }
+    // How many links it has: one out of the source's core, one for each step, and one into the destination's core.
+    #[tactic(auto, using(crate::specs::Hops::path_length))]
+    pub(crate) fn links(&self) -> usize
+        ensures { result ≡ length (walk_links self.now) }
     {
-        self.size() + node
+        self.along_x().steps() + self.along_y().steps() + 2
     }
 
-    // How many links a path has: one out of the source's core, one for each step, and one into the destination's core.
-    pub(crate) fn path_len(&self, source: usize, destination: usize) -> usize
-        requires { Both self.now.width self.now.height source destination }
-        ensures { result ≡ length (mesh_path self.now.width self.now.height source destination) }
+    // The k-th of its links, from 0; none past its end.
+    #[tactic(auto, using(crate::specs::Hops::first_at, crate::specs::Hops::step_at, crate::specs::Hops::last_at, crate::specs::Hops::path_length))]
+    pub(crate) fn link_at(&self, k: usize) -> Option<usize>
+        ensures { result ≡ link_of (Ok (walk_links self.now)) k }
     {
-        self.steps_x(source, destination) + self.steps_y(source, destination) + 2
-    }
-
-    // The k-th link of a path, from 0.
-    pub(crate) fn link_at(&self, source: usize, destination: usize, k: usize) -> usize
-        requires nodes { Both self.now.width self.now.height source destination }
-        requires within { k < length (mesh_path self.now.width self.now.height source destination) }
-        ensures { result ≡ slice_index (mesh_path self.now.width self.now.height source destination) k }
-    {
-        let steps = self.steps_x(source, destination) + self.steps_y(source, destination);
+        let last = self.links() - 1;
         if k == 0 {
-            source
-        } else if k <= steps {
-            self.step_link(source, destination, k - 1)
+            Some(self.trip.source)
+        } else if k < last {
+            Some(self.step_link(k - 1))
+        } else if k == last {
+            Some(self.mesh.size() + self.trip.destination)
         } else {
-            self.in_link(destination)
+            None
         }
     }
 }

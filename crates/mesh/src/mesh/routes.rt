@@ -1,15 +1,18 @@
 // The mesh as a fabric.
-ghost use Rattle.std.specs.Prelude.{◌≡◌, ◌+◌, ◌*◌, ◌<◌};
+ghost use Rattle.std.specs.Prelude.{◌≡◌, ◌*◌, ◌<◌};
+ghost use Rattle.std.specs.Result.{result_map_both};
 ghost use Rattle.mesh.specs.Links.{core, router, mesh_ends};
 ghost use Rattle.mesh.specs.Paths.{mesh_route};
-ghost use Rattle.std.proofs.Common.{arith};
-ghost use Rattle.mesh.specs.Routes.{size_some, node_known, route_lawful};
+ghost use Rattle.std.proofs.Common.{arith, mul-pos};
+ghost use Rattle.mesh.specs.Routes.{node_known, route_lawful};
 
 use super::Mesh;
+use super::path::Walk;
 use crate::direction::Direction;
 use fabric::fabric::Fabric;
 use fabric::fault::{Cause, RouteFault};
 use fabric::route::Ends;
+use fabric::trip::Trip;
 
 // A longer route is none.
 const MOST_LINKS: usize = 64;
@@ -29,6 +32,30 @@ fn router_of(node: usize) -> usize
     2 * node + 1
 }
 
+impl Mesh {
+    ghost use Rattle.mesh.specs.Trips.{walk_links};
+
+    // The walk of a route, or why there is none.
+    fn walk(&self, trip: Trip) -> Result<Walk<'_>, RouteFault>
+        ensures { result_map_both walk_links (λ fault. fault) result ≡ mesh_route self.now.width self.now.height trip.source trip.destination }
+    {
+        if !self.has(trip.source) || !self.has(trip.destination) {
+            return Err(RouteFault {
+                hop: 0,
+                cause: Cause::UnknownNode,
+            });
+        }
+        let walk = Walk { mesh: self, trip };
+        if walk.links() > MOST_LINKS {
+            return Err(RouteFault {
+                hop: 0,
+                cause: Cause::Length,
+            });
+        }
+        Ok(walk)
+    }
+}
+
 impl Fabric for Mesh {
     ghost nodes = { λ f. f.width * f.height };
 
@@ -38,7 +65,7 @@ impl Fabric for Mesh {
 
     ghost route = { λ f flow s d. mesh_route f.width f.height s d };
 
-    ghost sizes = { λ f. omega (arith, size_some f.width f.height f.wide f.high) };
+    ghost sizes = { λ f. omega (arith, mul-pos f.wide f.high) };
 
     ghost known = { λ f flow s d missing. node_known f.width f.height s d missing };
 
@@ -48,67 +75,29 @@ impl Fabric for Mesh {
         self.size()
     }
 
-    fn route_len(
-        &self,
-        _flow: usize,
-        source: usize,
-        destination: usize,
-    ) -> Result<usize, RouteFault> {
-        if !self.has(source) || !self.has(destination) {
-            return Err(RouteFault {
-                hop: 0,
-                cause: Cause::UnknownNode,
-            });
-        }
-        let links = self.path_len(source, destination);
-        if links > MOST_LINKS {
-            return Err(RouteFault {
-                hop: 0,
-                cause: Cause::Length,
-            });
-        }
-        Ok(links)
+    fn route_len(&self, trip: Trip) -> Result<usize, RouteFault> {
+        Ok(self.walk(trip)?.links())
     }
 
-    fn route_link(
-        &self,
-        flow: usize,
-        source: usize,
-        destination: usize,
-        k: usize,
-    ) -> Option<usize> {
-        let Ok(links) = self.route_len(flow, source, destination) else {
-            return None;
-        };
-        if k < links {
-            Some(self.link_at(source, destination, k))
-        } else {
-            None
-        }
+    fn route_link(&self, trip: Trip, k: usize) -> Option<usize> {
+        self.walk(trip).ok()?.link_at(k)
     }
 
     fn link_ends(&self, link: usize) -> Option<Ends> {
-        let nodes = self.node_count();
-        if link < nodes {
-            Some(Ends {
-                start: core_of(link),
-                stop: router_of(link),
-            })
+        let nodes = self.size();
+        let (start, stop) = if link < nodes {
+            (core_of(link), router_of(link))
         } else if link < 2 * nodes {
             let node = link - nodes;
-            Some(Ends {
-                start: router_of(node),
-                stop: core_of(node),
-            })
+            (router_of(node), core_of(node))
         } else if link < 6 * nodes {
-            let node = (link - 2 * nodes) / 4;
-            let to = Direction::numbered((link - 2 * nodes) % 4);
-            Some(Ends {
-                start: router_of(node),
-                stop: router_of(self.neighbour(to, node)),
-            })
+            let side = link - 2 * nodes;
+            let node = side / 4;
+            let next = self.neighbour(Direction::ALL[side % 4], node);
+            (router_of(node), router_of(next))
         } else {
-            None
-        }
+            return None;
+        };
+        Some(Ends { start, stop })
     }
 }

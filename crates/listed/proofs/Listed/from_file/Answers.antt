@@ -7,4 +7,4 @@ invariant_of-result c =
     let bs = c.args.bytes.now in
     let h = c.in_ok-header.header in
     let size = sized bs h c.in_ok-header.ensures in
-    record { some = size.some; few = size.few; limit = few_links bs h _ size c.in_ok-links.ensures }
+    record { some = rw (c.from.ensures, c.from-2.ensures) size.some; few = rw (c.from.ensures, c.from-2.ensures) size.few; limit = few_links bs h _ size c.in_ok-links.ensures }
