@@ -1,5 +1,5 @@
 -- Answers that are a value or the first fault. Assumes nothing.
-use Rattle.std.proofs.Common.{◌≡◌, IsErrAnd, Some, Err, Option, Result, sym, refl, ap, ◌∙◌, subst}
+use Rattle.std.proofs.Common.{◌≡◌, IsErrAnd, Some, Err, Option, Result, MatchResult, sym, refl, ap, ◌∙◌, subst}
 use Rattle.std.proofs.lemmas.Result.{err_from_is_err_and}
 use Rattle.table.specs.declared.fault.LoadFault.{LoadFault}
 use Rattle.table.specs.declared.fault.LoadFault.TheVariants.{NoMemory}
@@ -14,6 +14,11 @@ built_fault o P r e by first = let q = err_from_is_err_and r by in subst (Builds
 -- no memory, whatever the checks say
 pub built_nothing : {X : Type 0} (o : Option LoadFault) (P : X → Type 0) (r : Result X LoadFault) → IsErrAnd r (λ y. y ≡ NoMemory) → Builds o P r
 built_nothing o P r by = built_fault o P r NoMemory by (λ other. absurd (other refl))
+
+-- the first fault, handed up
+pub first_up :
+    {X : Type 0} (o : Option LoadFault) (P : X → Type 0) (r : Result X LoadFault) (e : LoadFault) → IsErrAnd r (λ y. y ≡ e) → o ≡ Some e → MatchResult r P (λ f. o ≡ Some f)
+first_up o P r e by first = let q = err_from_is_err_and r by in subst (λ (s : Result _ LoadFault). MatchResult s P (λ f. o ≡ Some f)) (sym (q.1 ∙ ap Err q.2)) first
 
 -- the fault that was handed up
 pub handed_up : {X : Type 0} (r : Result X LoadFault) (e f : LoadFault) → IsErrAnd r (λ y. y ≡ e) → r ≡ Err f → e ≡ f

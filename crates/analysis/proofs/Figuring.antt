@@ -1,7 +1,7 @@
 -- The bound of a flow, from a search or from none. Assumes nothing.
-use Rattle.std.proofs.Common.{◌≡◌, ℕ, suc, ◌+◌, ◌-◌, ◌*◌, ◌≤◌, Bool, true, false, not, ◌&&◌, ◌||◌, ltb, leb, List, None, Option, sym, refl, ap, ◌∙◌, inl, inr, arith}
+use Rattle.std.proofs.Common.{◌≡◌, ℕ, suc, ◌+◌, ◌-◌, ◌*◌, ◌<◌, ◌≤◌, Bool, true, false, ◌&&◌, leb, List, None, Option, sym, refl, ap, ◌∙◌, arith}
 use mathlib.Core.Path.{fun_ext}
-use Rattle.std.proofs.lemmas.Bool.{cond-true, cond-false, and_from, or_cases, not-true, le-leb, lt-leb, ltb-true}
+use Rattle.std.proofs.lemmas.Bool.{cond-true, cond-false, and_from, le-leb, lt-leb}
 use Rattle.staircase.specs.declared.search.Climb.{Climb}
 use Rattle.staircase.specs.declared.term.Term.{Term}
 use Rattle.staircase.specs.Climbs.{climbed}
@@ -30,20 +30,16 @@ module _ (b : Table) (i : ℕ) where
     sym (cond-false (searched b R i) (rounds (demand b R i) (b.D i) (suc (b.D i)) (base b i)) 0 e),
   )
 
-  -- where a flow above is not bounded, or not even the start of the search is within the deadline
-  pub unbounded :
-      (all : Bool) (ground D : ℕ) → all ≡ settled b R i → ground ≡ base b i → D ≡ b.D i → (not all || ltb D ground) ≡ true →
-      (None ≡ bound_of b i) × (0 ≡ rounds_of b i)
+  -- where a flow above is not bounded
+  pub unbounded : false ≡ settled b R i → (None ≡ bound_of b i) × (0 ≡ rounds_of b i)
   unfolding searched
-  unbounded all ground D same start due test =
-      elim (or_cases (not all) (ltb D ground) test) [
-        | inl not-all ↦
-            unsearched (and_no_left ((leb 1 i && leb i b.z) && settled b R i) (leb (base b i) (b.D i))
-            (and_no_right (leb 1 i && leb i b.z) (settled b R i) (sym same ∙ not-true all not-all)))
-        | inr past ↦
-            unsearched (and_no_right ((leb 1 i && leb i b.z) && settled b R i) (leb (base b i) (b.D i))
-            (lt-leb (base b i) (b.D i) (omega (arith, ltb-true D ground past))))
-      ]
+  unbounded none =
+      unsearched (and_no_left ((leb 1 i && leb i b.z) && settled b R i) (leb (base b i) (b.D i)) (and_no_right (leb 1 i && leb i b.z) (settled b R i) (sym none)))
+
+  -- where not even the start of the search is within the deadline
+  pub overdue : b.D i < base b i → (None ≡ bound_of b i) × (0 ≡ rounds_of b i)
+  unfolding searched
+  overdue late = unsearched (and_no_right ((leb 1 i && leb i b.z) && settled b R i) (leb (base b i) (b.D i)) (lt-leb (base b i) (b.D i) late))
 
   -- the terms of the flows above make the demand
   pub demand_is : (ground : ℕ) (terms : List Term) → ground ≡ base b i → Takes b i terms → demanded ground terms ≡ demand b R i

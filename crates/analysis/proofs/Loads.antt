@@ -17,7 +17,7 @@ use Rattle.timing.specs.Model.{Table}
 use Rattle.analysis.specs.declared.row.Row.{Row}
 use Rattle.analysis.specs.Loading.{record_byte, route_checks, route_checks_of}
 use Rattle.analysis.specs.Rows.{taken, carried, Meets, Builds, RowFits, RowsFit}
-use Rattle.analysis.specs.Standing.{Ordered, InSlot, Stands, Standing, Apart}
+use Rattle.analysis.specs.Standing.{Ordered, InSlot, Stands, Standing, Told, Apart}
 use Rattle.analysis.specs.Tables.{no_record, record_of, route_of, path_of, flits_of, table_of}
 
 taken_ok : (h : Header) (i : ℕ) (r : Route) (p : List ℕ) → Ok p ≡ taken h i r → r ≡ Ok p
@@ -70,10 +70,10 @@ module _ (slot : Slot) (p : Profile) (rs : List FlowRecord) (route : ℕ → ℕ
     i = length rows + 1
 
     pub row_fits :
-        length rows < length rs → record_of rs i ≡ flow → RowsFit slot p rs route (length rows) rows →
+        i ≤ length rs → record_of rs i ≡ flow → RowsFit slot p rs route (length rows) rows →
         Ok (links_in path) ≡ taken h i (route i flow.source flow.destination) →
         Ok split ≡ carried h p slot.window i (length (links_in path)) flow.payload → row.record ≡ flow → row.path ≡ path →
-        ((t : Table) → Ordered t → InSlot t slot → Standing t rows → Meets t rows path → length rows < t.z → split.parts ≡ t.w i → split.tail ≡ t.c i →
+        ((t : Table) → Told t slot rows → Meets t rows path → i ≤ t.z → split.parts ≡ t.w i → split.tail ≡ t.c i →
         flow.separation ≡ t.T i → flow.deadline ≡ t.D i → Stands t row i) →
         (first_fault (route_checks_of h slot p rs route i) ≡ None) × RowFits slot p rs route i row
     unfolding table_of
@@ -90,7 +90,7 @@ module _ (slot : Slot) (p : Profile) (rs : List FlowRecord) (route : ℕ → ℕ
             flow = is ∙ sym same;
             links = ap links_in at ∙ sym links;
             stands =
-                stands b ordered in_slot (standing (length rows) rows fit) (meets rows path fit (sym links)) inside (ap (λ (s : Split). s.parts) split-is)
+                stands b (record { ordered = ordered; times = in_slot; standing = standing (length rows) rows fit }) (meets rows path fit (sym links)) inside (ap (λ (s : Split). s.parts) split-is)
                 (ap (λ (s : Split). s.tail) split-is) (ap (λ (f : FlowRecord). f.separation) (sym same)) (ap (λ (f : FlowRecord). f.deadline) (sym same));
           },
         )
@@ -119,7 +119,7 @@ module _ (slot : Slot) (p : Profile) (rs : List FlowRecord) (route : ℕ → ℕ
   pub turn_built :
       (h : Header) (n : ℕ) (rows xs : List Row) (flow : FlowRecord) (r : Result Row LoadFault) → xs ≡ rows → RowsFit slot p rs route n rows → n < length rs →
       get_or rs n no_record ≡ flow →
-      ((qs : List FlowRecord) → length xs < length qs → record_of qs (length xs + 1) ≡ flow → RowsFit slot p qs route (length xs) xs →
+      ((qs : List FlowRecord) → length xs + 1 ≤ length qs → record_of qs (length xs + 1) ≡ flow → RowsFit slot p qs route (length xs) xs →
       Builds (first_fault (route_checks_of h slot p qs route (length xs + 1))) (RowFits slot p qs route (length xs + 1)) r) →
       Builds (first_fault (route_checks_of h slot p rs route (n + 1))) (RowFits slot p rs route (n + 1)) r
   turn_built h n rows xs flow r lent fit less is told =

@@ -1,5 +1,5 @@
 -- What a file keeps whose size, header, fit and sections are in order. Assumes nothing.
-use Rattle.std.proofs.Common.{◌≡◌, ℕ, zero, suc, ◌+◌, ◌*◌, ◌^◌, ◌<◌, ◌≤◌, Bool, true, false, cond, List, [], ◌∷◌, ◌++◌, length, is_some, Some, None, Option, unwrap_or, sym, refl, ap, ◌∙◌, subst, append_assoc, mul-le-mul, arith}
+use Rattle.std.proofs.Common.{◌≡◌, ℕ, zero, suc, ◌+◌, ◌*◌, ◌^◌, ◌<◌, ◌≤◌, Bool, true, false, cond, List, [], ◌∷◌, ◌++◌, length, is_some, Some, None, Ok, Err, Option, Result, MatchResult, unwrap_or, sym, refl, ap, ◌∙◌, subst, append_assoc, mul-le-mul, arith}
 use Rattle.std.proofs.lemmas.List.FromFn.{length-map-range_with_len}
 use Rattle.std.proofs.lemmas.Bool.Decides.{nat_tests}
 use Rattle.table.specs.declared.fault.LoadFault.{LoadFault}
@@ -12,8 +12,9 @@ use Rattle.table.specs.Profiles.{profile_at}
 use Rattle.table.specs.File.{flows_of, flow_at}
 use Rattle.table.specs.Checks.{first_fault, size_checks, shape_checks, unlisted_checks, reserved_checks, profile_checks, header_checks, section_checks}
 use Rattle.table.proofs.Firsts.{both_passed}
-use Rattle.parts.specs.declared.slot.Slot.{Slot}
-use Rattle.parts.specs.Slots.{slot_of, slot_for}
+use Rattle.parts.specs.Slots.{slot_for}
+use Rattle.analysis.specs.declared.setting.Setting.{Setting}
+use Rattle.analysis.specs.Settings.{SetFor}
 use Rattle.analysis.specs.Loading.{misfit_checks, open_checks, profile_of, no_profile}
 
 -- the checks in the order of a load, and as they are made
@@ -68,18 +69,20 @@ sound (suc (suc (suc zero))) p e = let q : Profile = record { interval = 4; rout
 sound (suc (suc (suc (suc zero)))) p e = let q : Profile = record { interval = 2; routing = 1; transfer = 1; pause = 0; flit = 16 } in sound_at q p (some_is p q e) (omega arith) (omega arith) (omega arith) (omega arith) (omega arith)
 sound (suc (suc (suc (suc (suc n))))) p e = let z : ◌≡◌ {A = ℕ} 0 1 = cc in absurd (omega arith)
 
-pub profile_is : (h : Header) (p : Profile) → Some p ≡ profile_at h.profile → p ≡ profile_of h
-profile_is h p e = ap (λ (o : Option Profile). unwrap_or o no_profile) e
-
--- the slot of such a header
-pub slot_is : (h : Header) (p : Profile) (slot : Slot) → Some slot ≡ slot_of h p → slot ≡ slot_for h p
-slot_is h p slot e = by (Rattle.std.specs.Option.is_some (slot_of h p)) e
+pub sound_known : (h : Header) → is_some (profile_at h.profile) ≡ true → Sound (profile_of h)
+sound_known h known = by (profile_at h.profile) refl known
   where
-    by : Bool → Some slot ≡ slot_of h p → slot ≡ slot_for h p
-    by t same = grind (arith, nat_tests)
+    by : (o : Option Profile) → profile_at h.profile ≡ o → is_some o ≡ true → Sound (unwrap_or o no_profile)
+    by (Some p) e some = sound h.profile p (sym e)
+    by None e some = let z : ◌≡◌ {A = ℕ} 0 1 = cc in absurd (omega arith)
 
-pub slot_there : (h : Header) (p : Profile) → Opened h → None ≡ slot_of h p → ⊥
-slot_there h p ok e = let a = ok.few in let b = ok.spare in grind (arith, nat_tests)
+-- the setting of such a header
+pub set_from :
+    (o : Option LoadFault) (H h : Header) (r : Result Setting LoadFault) → h ≡ H → o ≡ None → is_some (profile_at H.profile) ≡ true →
+    MatchResult r (SetFor h) (λ _. profile_at h.profile ≡ None) → MatchResult r (λ s. (o ≡ None) × SetFor H s) (λ e. o ≡ Some e)
+set_from o H h (Ok s) same fine known set = (fine, subst (λ (k : Header). SetFor k s) same set)
+set_from o H h (Err e) same fine known none =
+    absurd (both_ways (is_some (profile_at H.profile)) (sym (ap (λ (p : Option Profile). is_some p) (sym none ∙ ap (λ (k : Header). profile_at k.profile) same))) known)
 
 pub slot_short : (h : Header) (p : Profile) → Opened h → Sound p → ((slot_for h p).length < 2 ^ 30) × (0 < (slot_for h p).length)
 slot_short h p ok small =

@@ -40,6 +40,12 @@ pub record Stands (b : Table) (row : Row) (i : ℕ) : Type 0 where
 abbrev pub Standing : Table → List Row → Type 0
 Standing b rows = (k : ℕ) (d : Row) → k < length rows → Stands b (slice_index_or rows k d) (k + 1)
 
+-- the slot and the rows tell what the table says of it and of the first flows
+pub record Told (b : Table) (slot : Slot) (rows : List Row) : Type 0 where
+  pub ordered : Ordered b
+  pub times : InSlot b slot
+  pub standing : Standing b rows
+
 -- what flow h takes from flow i, for each separation of h
 abbrev pub TermFor : Table → ℕ → ℕ → Option Term → Type 0
 TermFor b h i r = seen r ≡ term_for (jitter b (bound_of b) h i) (b.T h) (b.w h * b.S)

@@ -1,11 +1,10 @@
 // Which flows of higher priority share a link with a flow.
-ghost use Rattle.std.specs.Prelude.{◌≡◌, length};
+use arrayvec::ArrayVec;
 
 pub mod marks;
 
 // By flow number less one.
-#[derive(Clone, Copy)]
+#[derive(Drop)]
 pub struct Above {
-    flags: [bool; 128],
-    ghost long: { length flags ≡ 128 },
+    flags: ArrayVec<bool, 128>,
 }

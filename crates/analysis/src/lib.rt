@@ -8,4 +8,6 @@ pub mod figures;
 pub mod load;
 pub mod loaded;
 pub mod row;
+mod setting;
 mod taking;
+mod turn;

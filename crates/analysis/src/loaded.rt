@@ -25,16 +25,8 @@ impl Loaded {
     pub fn figures(&self, flow: usize) -> Option<Figures>
         ensures { result ≡ figures_at self.now.rows.items flow }
     {
-        if (flow < 1) | (flow > self.flows()) {
-            return None;
-        }
-        let row = &self.rows[flow - 1];
-        Some(Figures {
-            hops: row.path.len(),
-            parts: row.parts,
-            alone: row.alone,
-            bound: row.bound,
-            rounds: row.rounds,
-        })
+        let place = flow.checked_sub(1)?;
+        let row = self.rows.get(place)?;
+        Some(row.figures())
     }
 }

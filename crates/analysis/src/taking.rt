@@ -2,157 +2,138 @@
 ghost use Rattle.std.specs.Prelude.{◌≡◌, ℕ, ◌+◌, ◌^◌, ◌<◌, ◌≤◌, List, length, IfOk, slice_index_or};
 ghost use Rattle.fabric.specs.Paths.{links_in};
 ghost use Rattle.timing.specs.Model.{Table};
-ghost use Rattle.analysis.specs.Standing.{Ordered, InSlot, Stands, Standing, Apart};
+ghost use Rattle.analysis.specs.Standing.{Told, Stands};
 ghost use Rattle.analysis.specs.Rows.{taken, links_taken, carried, Meets, Builds, RowFits, RowsFit};
-ghost use Rattle.analysis.specs.Loading.{each_flow, route_checks_of};
+ghost use Rattle.analysis.specs.Loading.{each_flow, record_byte, route_checks_of};
 ghost use Rattle.analysis.specs.Tables.{no_record, record_of};
 ghost use Rattle.table.specs.Checks.{first_fault};
 ghost use Rattle.table.specs.declared.records.FlowRecord.{FlowRecord};
 
 use crate::above::Above;
-use crate::bounding::bound_of;
-use crate::checks::record_byte;
+use crate::bounding::Rivals;
 use crate::row::Row;
+use crate::setting::Setting;
+use crate::turn::Turn;
 use fabric::fabric::Fabric;
 use fabric::path::Path;
-use parts::slot::Slot;
+use fabric::trip::Trip;
 use parts::split::{Split, split_packet};
 use std::alloc::{AllocError, Global};
 use table::fault::LoadFault;
-use table::header::Header;
-use table::profile::Profile;
 use table::records::FlowRecord;
 
-// The route of a flow; where there is none, the fault tells the route's hop and cause inside the load's own.
-fn take_route<F: Fabric>(
-    fabric: &F,
-    header: &Header,
-    number: usize,
-    flow: &FlowRecord,
-) -> Result<Path, LoadFault>
-    requires { number ≤ 128 }
-    ensures { links_taken result ≡ taken header.now number (F.route fabric.now number flow.now.source flow.now.destination) }
-{
-    let asked = Path::take(
-        fabric,
-        number,
-        usize::from(flow.source),
-        usize::from(flow.destination),
-    );
-    let Ok(path) = asked else {
-        let Err(fault) = asked else { unreachable() };
-        return Err(LoadFault::Route {
+impl Turn<'_> {
+    // The flow's number.
+    pub(crate) fn number(&self) -> usize
+        ensures { result ≡ length self.now.rows.now + 1 }
+    {
+        self.rows.len() + 1
+    }
+
+    // Where the flow's record begins.
+    fn record_byte(&self) -> usize
+        ensures { result ≡ record_byte self.now.setting.now.header (length self.now.rows.now + 1) }
+    {
+        self.setting.record_byte(self.number())
+    }
+
+    // The flow's route; where there is none, the fault tells the route's hop and cause inside the load's own.
+    fn take_route<F: Fabric>(&self, fabric: &F, flow: &FlowRecord) -> Result<Path, LoadFault>
+        ensures { let i = length self.now.rows.now + 1 in links_taken result ≡ taken self.now.setting.now.header i (F.route fabric.now i flow.now.source flow.now.destination) }
+    {
+        let number = self.number();
+        let trip = Trip {
             flow: number,
-            byte: record_byte(header, number),
-            fault,
-        });
-    };
-    Ok(path)
-}
+            source: usize::from(flow.source),
+            destination: usize::from(flow.destination),
+        };
+        let asked = Path::take(fabric, trip);
+        let Ok(path) = asked else {
+            let byte = self.record_byte();
+            return asked.map_err(|fault| LoadFault::Route {
+                flow: number,
+                byte,
+                fault,
+            });
+        };
+        Ok(path)
+    }
 
-// The parts of a flow's packets over its route.
-fn carry(
-    header: &Header,
-    profile: &Profile,
-    slot: &Slot,
-    number: usize,
-    path: &Path,
-    payload: u32,
-) -> Result<Split, LoadFault>
-    requires number { number ≤ 128 }
-    requires transfer { 1 ≤ profile.now.transfer }
-    requires flit { 1 ≤ profile.now.flit }
-    ensures near { IfOk result (λ s. s.tail < 2 ^ 60) }
-    ensures value { result ≡ carried header.now profile.now slot.now.window number (length (links_in path.now)) payload }
-{
-    let Some(split) = split_packet(profile, slot.window, path.len(), payload) else {
-        return Err(LoadFault::Capacity {
-            flow: number,
-            byte: record_byte(header, number),
-        });
-    };
-    Ok(split)
-}
+    // The parts of the flow's packets over its route.
+    fn carry(&self, path: &Path, payload: u32) -> Result<Split, LoadFault>
+        ensures near { IfOk result (λ s. s.tail < 2 ^ 60) }
+        ensures value { let s = self.now.setting.now in result ≡ carried s.header s.profile s.slot.window (length self.now.rows.now + 1) (length (links_in path.now)) payload }
+    {
+        let Setting { profile, slot, .. } = self.setting;
+        split_packet(profile, slot.window, path.len(), payload).ok_or(LoadFault::Capacity {
+            flow: self.number(),
+            byte: self.record_byte(),
+        })
+    }
 
-// The row of the flow that comes after the rows.
-fn row_of(
-    heap: Global,
-    slot: &Slot,
-    rows: &[Row],
-    flow: FlowRecord,
-    path: Path,
-    split: Split,
-) -> Result<Row, AllocError>
-    requires pause { slot.now.pause ≤ slot.now.length }
-    requires short { slot.now.length < 2 ^ 30 }
-    requires near { split.tail < 2 ^ 62 }
-    requires apart { Apart rows.now }
-    requires few { length rows.now < 128 }
-    ensures flow { IfOk result (λ row. row.record ≡ flow) }
-    ensures path { IfOk result (λ row. row.path ≡ path) }
-    ensures stands { IfOk result (λ row. (b : Table) → Ordered b → InSlot b slot.now → Standing b rows.now → Meets b rows.now path → length rows.now < b.z → split.parts ≡ b.w (length rows.now + 1) → split.tail ≡ b.c (length rows.now + 1) → flow.separation ≡ b.T (length rows.now + 1) → flow.deadline ≡ b.D (length rows.now + 1) → Stands b row (length rows.now + 1)) }
-{
-    let parts = u64::from(split.parts);
-    let alone = parts.saturating_sub(1) * u64::from(slot.length) + split.tail;
-    let above = Above::sharing(rows, &path);
-    let climb = bound_of(heap, slot, rows, &above, alone, flow.deadline)?;
-    Ok(Row {
-        record: flow,
-        path,
-        parts: split.parts,
-        tail: split.tail,
-        alone,
-        above,
-        bound: climb.least,
-        rounds: climb.rounds,
-    })
-}
+    // The flow's row, from its record, its route and the split of its packets.
+    fn row(
+        &self,
+        heap: Global,
+        flow: FlowRecord,
+        path: Path,
+        split: Split,
+    ) -> Result<Row, AllocError>
+        requires { split.tail < 2 ^ 62 }
+        ensures flow { IfOk result (λ row. row.record ≡ flow) }
+        ensures path { IfOk result (λ row. row.path ≡ path) }
+        ensures stands { let i = length self.now.rows.now + 1 in IfOk result (λ row. (b : Table) → Told b self.now.setting.now.slot self.now.rows.now → Meets b self.now.rows.now path → i ≤ b.z → split.parts ≡ b.w i → split.tail ≡ b.c i → flow.separation ≡ b.T i → flow.deadline ≡ b.D i → Stands b row i) }
+    {
+        let length = u64::from(self.setting.slot.length);
+        let parts = u64::from(split.parts);
+        let alone = parts.saturating_sub(1) * length + split.tail;
+        let above = Above::sharing(heap, self.rows, &path)?;
+        let rivals = Rivals {
+            turn: *self,
+            marks: &above,
+        };
+        let climb = rivals.bound(heap, alone, flow.deadline)?;
+        Ok(Row {
+            record: flow,
+            path,
+            parts: split.parts,
+            tail: split.tail,
+            alone,
+            above,
+            bound: climb.least,
+            rounds: climb.rounds,
+        })
+    }
 
-// The row of the flow that comes after the rows, by its record; the checks of its route come first.
-fn load_row<F: Fabric>(
-    heap: Global,
-    fabric: &F,
-    header: &Header,
-    profile: &Profile,
-    slot: &Slot,
-    rows: &[Row],
-    flow: FlowRecord,
-) -> Result<Row, LoadFault>
-    requires pause { slot.now.pause ≤ slot.now.length }
-    requires short { slot.now.length < 2 ^ 30 }
-    requires transfer { 1 ≤ profile.now.transfer }
-    requires flit { 1 ≤ profile.now.flit }
-    requires apart { Apart rows.now }
-    requires few { length rows.now < 128 }
-    ensures { (rs : List FlowRecord) → length rows.now < length rs → record_of rs (length rows.now + 1) ≡ flow → RowsFit slot.now profile.now rs (F.route fabric.now) (length rows.now) rows.now → Builds (first_fault (route_checks_of header.now slot.now profile.now rs (F.route fabric.now) (length rows.now + 1))) (RowFits slot.now profile.now rs (F.route fabric.now) (length rows.now + 1)) result }
-{
-    let number = rows.len() + 1;
-    let path = take_route(fabric, header, number, &flow)?;
-    let split = carry(header, profile, slot, number, &path, flow.payload)?;
-    let row = row_of(heap, slot, rows, flow, path, split)?;
-    Ok(row)
+    // The flow's row, from its record; the checks of its route come first.
+    fn load<F: Fabric>(&self, heap: Global, fabric: &F, flow: FlowRecord) -> Result<Row, LoadFault>
+        ensures { let s = self.now.setting.now in let rows = self.now.rows.now in let i = length rows + 1 in (rs : List FlowRecord) → i ≤ length rs → record_of rs i ≡ flow → RowsFit s.slot s.profile rs (F.route fabric.now) (length rows) rows → Builds (first_fault (route_checks_of s.header s.slot s.profile rs (F.route fabric.now) i)) (RowFits s.slot s.profile rs (F.route fabric.now) i) result }
+    {
+        let path = self.take_route(fabric, &flow)?;
+        let split = self.carry(&path, flow.payload)?;
+        let row = self.row(heap, flow, path, split)?;
+        Ok(row)
+    }
 }
 
 // The rows of all flows, in turn.
 pub(crate) fn load_rows<F: Fabric>(
     heap: Global,
     fabric: &F,
-    header: &Header,
-    profile: &Profile,
-    slot: &Slot,
+    setting: &Setting,
     records: &[FlowRecord],
 ) -> Result<Vec<Row>, LoadFault>
-    requires pause { slot.now.pause ≤ slot.now.length }
-    requires short { slot.now.length < 2 ^ 30 }
-    requires transfer { 1 ≤ profile.now.transfer }
-    requires flit { 1 ≤ profile.now.flit }
     requires apart { (k : ℕ) → k < length records.now → 1 ≤ (slice_index_or records.now k no_record).separation }
     requires few { length records.now ≤ 128 }
-    ensures { Builds (first_fault (each_flow (route_checks_of header.now slot.now profile.now records.now (F.route fabric.now)) (length records.now))) (λ v. RowsFit slot.now profile.now records.now (F.route fabric.now) (length records.now) v.items) result }
+    ensures { let s = setting.now in let rs = records.now in Builds (first_fault (each_flow (route_checks_of s.header s.slot s.profile rs (F.route fabric.now)) (length rs))) (λ v. RowsFit s.slot s.profile rs (F.route fabric.now) (length rs) v.items) result }
 {
     let mut rows = Vec::new(heap);
     for flow in records {
-        let row = load_row(heap, fabric, header, profile, slot, rows.as_slice(), *flow)?;
+        let turn = Turn {
+            setting,
+            rows: rows.as_slice(),
+        };
+        let row = turn.load(heap, fabric, *flow)?;
         rows.push(row)?;
     }
     Ok(rows)

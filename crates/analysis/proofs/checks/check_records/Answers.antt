@@ -19,28 +19,28 @@ same h nodes slot rs k =
     ap (λ j. first_fault (record_checks h nodes slot (k + 1) (get_or rs j no_record))) place
 
 pub loop-k-init : goal.loop-k-init
-loop-k-init c = none_yet (checks_of c.args.header.now c.args.nodes c.args.slot c.args.records.now)
+loop-k-init c = none_yet (checks_of c.args.setting.now.header c.args.nodes c.args.setting.now.slot.length c.args.records.now)
 
 pub returns-in_err-check_record : goal.returns-in_err-check_record
 returns-in_err-check_record c =
-    let f = checks_of c.args.header.now c.args.nodes c.args.slot c.args.records.now in
+    let f = checks_of c.args.setting.now.header c.args.nodes c.args.setting.now.slot.length c.args.records.now in
     let n = length c.args.records.now in
     let k = c.loop-k.k in
     let e = c.in_err-check_record.field-0.0 in
-    let here = same c.args.header.now c.args.nodes c.args.slot c.args.records.now k ∙ unless_err _ tt e c.in_err-check_record.ensures in
+    let here = same c.args.setting.now.header c.args.nodes c.args.setting.now.slot.length c.args.records.now k ∙ unless_err _ tt e c.in_err-check_record.ensures in
     exits _ (first_fault (each_flow f n)) tt e c.from_residual.ensures.1
     (stays f (k + 1) n e (omega (arith, c.loop-k-test.true)) (turn_is f k (Some e) c.loop-k.invariant here))
 
 pub loop-k-preserved : goal.loop-k-preserved
 loop-k-preserved c =
-    let f = checks_of c.args.header.now c.args.nodes c.args.slot c.args.records.now in
+    let f = checks_of c.args.setting.now.header c.args.nodes c.args.setting.now.slot.length c.args.records.now in
     let k = c.loop-k.k in
-    let here = same c.args.header.now c.args.nodes c.args.slot c.args.records.now k ∙ unless_ok _ tt tt c.in_ok-check_record.ensures in
+    let here = same c.args.setting.now.header c.args.nodes c.args.setting.now.slot.length c.args.records.now k ∙ unless_ok _ tt tt c.in_ok-check_record.ensures in
     turn_is f k None c.loop-k.invariant here
 
 pub returns : goal.returns
 returns c =
-    let f = checks_of c.args.header.now c.args.nodes c.args.slot c.args.records.now in
+    let f = checks_of c.args.setting.now.header c.args.nodes c.args.setting.now.slot.length c.args.records.now in
     let n = length c.args.records.now in
     let all : c.loop-k.k ≡ n = omega arith in
     sym (ap (λ k. unless (first_fault (each_flow f k)) tt) (sym all) ∙ ap (λ o. unless o tt) c.loop-k.invariant)

@@ -11,36 +11,32 @@ pub loop-flow-init : goal.loop-flow-init
 loop-flow-init g c =
     let rs = c.args.records.now in
     let R = g.F.Fabric.route c.args.fabric.now in (
-      none_yet (route_checks_of c.args.header.now c.args.slot.now c.args.profile.now rs R),
-      subst (RowsFit c.args.slot.now c.args.profile.now rs R 0) (sym c.new-rows.ensures.items) (no_rows c.args.slot.now c.args.profile.now rs R),
+      none_yet (route_checks_of c.args.setting.now.header c.args.setting.now.slot c.args.setting.now.profile rs R),
+      subst (RowsFit c.args.setting.now.slot c.args.setting.now.profile rs R 0) (sym c.new-rows.ensures.items) (no_rows c.args.setting.now.slot c.args.setting.now.profile rs R),
     )
 
-pub load_row-requires : goal.load_row-requires
-load_row-requires g c =
+pub invariant_of-turn : goal.invariant_of-turn
+invariant_of-turn g c =
     let rows = vec_items c.loop-flow.rows in
     let fit = c.loop-flow.invariant.1 in
     let lent = c.as_slice.ensures.value in
     record {
-      pause = c.requires.pause;
-      short = c.requires.short;
-      transfer = c.requires.transfer;
-      flit = c.requires.flit;
-      apart =
-          apart_from c.args.slot.now c.args.profile.now c.args.records.now (g.F.Fabric.route c.args.fabric.now) c.loop-flow.flow-index rows c.as_slice.result.now
-          lent fit (omega (arith, c.loop-flow-test.true)) c.requires.apart;
       few = omega (arith, ap length lent, fit.count, c.loop-flow-test.true, c.requires.few);
+      apart =
+          apart_from c.args.setting.now.slot c.args.setting.now.profile c.args.records.now (g.F.Fabric.route c.args.fabric.now) c.loop-flow.flow-index rows c.as_slice.result.now
+          lent fit (omega (arith, c.loop-flow-test.true)) c.requires.apart;
     }
 
 pub returns-in_err-row : goal.returns-in_err-row
 returns-in_err-row g c =
     let rs = c.args.records.now in
     let R = g.F.Fabric.route c.args.fabric.now in
-    let checks = route_checks_of c.args.header.now c.args.slot.now c.args.profile.now rs R in
+    let checks = route_checks_of c.args.setting.now.header c.args.setting.now.slot c.args.setting.now.profile rs R in
     let k = c.loop-flow.flow-index in
     let e = c.in_err-row.field-0.0 in
     let inv = c.loop-flow.invariant in
     let built =
-    turn_built c.args.slot.now c.args.profile.now rs R c.args.header.now k (vec_items c.loop-flow.rows) c.as_slice.result.now _ (Err e)
+    turn_built c.args.setting.now.slot c.args.setting.now.profile rs R c.args.setting.now.header k (vec_items c.loop-flow.rows) c.as_slice.result.now _ (Err e)
     c.as_slice.ensures.value inv.1 c.loop-flow-test.true refl c.in_err-row.ensures in
     built_fault _ _ _ e c.from_residual.ensures.1
     (λ other. stays checks (k + 1) (length rs) e (omega (arith, c.loop-flow-test.true)) (turn_is checks k (Some e) inv.0 (built other)))
@@ -52,26 +48,26 @@ pub loop-flow-preserved : goal.loop-flow-preserved
 loop-flow-preserved g c =
     let rs = c.args.records.now in
     let R = g.F.Fabric.route c.args.fabric.now in
-    let checks = route_checks_of c.args.header.now c.args.slot.now c.args.profile.now rs R in
+    let checks = route_checks_of c.args.setting.now.header c.args.setting.now.slot c.args.setting.now.profile rs R in
     let k = c.loop-flow.flow-index in
     let rows = vec_items c.loop-flow.rows in
     let row = c.in_ok-row.row in
     let inv = c.loop-flow.invariant in
     let built =
-    turn_built c.args.slot.now c.args.profile.now rs R c.args.header.now k rows c.as_slice.result.now _ (Ok row)
+    turn_built c.args.setting.now.slot c.args.setting.now.profile rs R c.args.setting.now.header k rows c.as_slice.result.now _ (Ok row)
     c.as_slice.ensures.value inv.1 c.loop-flow-test.true refl c.in_ok-row.ensures in (
       turn_is checks k None inv.0 built.0,
-      subst (RowsFit c.args.slot.now c.args.profile.now rs R (k + 1)) (sym c.in_ok-push.ensures.items)
-          (row_more c.args.slot.now c.args.profile.now rs R k rows row inv.1 built.1),
+      subst (RowsFit c.args.setting.now.slot c.args.setting.now.profile rs R (k + 1)) (sym c.in_ok-push.ensures.items)
+          (row_more c.args.setting.now.slot c.args.setting.now.profile rs R k rows row inv.1 built.1),
     )
 
 pub returns : goal.returns
 returns g c =
     let rs = c.args.records.now in
     let R = g.F.Fabric.route c.args.fabric.now in
-    let checks = route_checks_of c.args.header.now c.args.slot.now c.args.profile.now rs R in
+    let checks = route_checks_of c.args.setting.now.header c.args.setting.now.slot c.args.setting.now.profile rs R in
     let all : c.loop-flow.flow-index ≡ length rs = omega (arith, c.loop-flow-test.false) in
     let inv = c.loop-flow.invariant in (
       ap (λ (n : ℕ). first_fault (each_flow checks n)) (sym all) ∙ inv.0,
-      subst (λ (n : ℕ). RowsFit c.args.slot.now c.args.profile.now rs R n (vec_items c.loop-flow.rows)) all inv.1,
+      subst (λ (n : ℕ). RowsFit c.args.setting.now.slot c.args.setting.now.profile rs R n (vec_items c.loop-flow.rows)) all inv.1,
     )

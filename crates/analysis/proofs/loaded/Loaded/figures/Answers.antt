@@ -1,25 +1,26 @@
-use Rattle.std.proofs.Common.{◌≡◌, ℕ, ltb, Some, vec_items, sym, ap, ◌∙◌, inl, inr, arith}
-use Rattle.std.proofs.lemmas.Bool.{or_cases, or_parts, ltb-true, ltb-false}
+use Rattle.std.proofs.Common.{◌≡◌, ◌-◌, ◌<◌, ◌≤◌, length, get_or, Some, vec_items, sym, ap, ◌∙◌, arith}
+use Rattle.std.proofs.lemmas.Grind.{common_steps}
 use Rattle.analysis.specs.Answers.{figures_at}
 use Rattle.analysis.proofs.Listing.{figures_there, figures_past, figures_none}
 use Rattle.analysis.proofs.loaded.Loaded.figures.Goals as goal
 
-pub returns-then-flow-flows : goal.returns-then-flow-flows
-returns-then-flow-flows c =
+pub returns-in_err-place : goal.returns-in_err-place
+returns-in_err-place c =
     let rows = vec_items c.args.self.now.rows in
-    elim (or_cases (ltb c.args.flow 1) (ltb c.flows.result c.args.flow) c.if-flow-flows.true) [
-      | inl low ↦
-          let first : c.args.flow ≡ 0 = omega (arith, ltb-true c.args.flow 1 low) in
-          sym (ap (figures_at rows) first ∙ figures_none rows)
-      | inr high ↦ sym (figures_past rows c.args.flow (omega (arith, ltb-true c.flows.result c.args.flow high, c.flows.ensures)))
-    ]
+    let first : c.args.flow ≡ 0 = grind (arith, common_steps) in
+    c.from_residual.ensures ∙ sym (ap (figures_at rows) first ∙ figures_none rows)
+
+pub returns-in_err-row : goal.returns-in_err-row
+returns-in_err-row c =
+    let rows = vec_items c.args.self.now.rows in
+    let past : length rows < c.args.flow = grind (arith, common_steps) in
+    c.from_residual-in_err-row.ensures ∙ sym (figures_past rows c.args.flow past)
 
 pub returns : goal.returns
 returns c =
-    let row = c.index-row.result.now in
     let rows = vec_items c.args.self.now.rows in
-    let test = or_parts (ltb c.args.flow 1) (ltb c.flows.result c.args.flow) c.if-flow-flows.false in
-    let low = ltb-false c.args.flow 1 test.0 in
-    let high = ltb-false c.flows.result c.args.flow test.1 in
-    let there = figures_there rows c.args.flow row low (omega (arith, high, c.flows.ensures)) c.index-row.ensures in
-    ap (λ (n : ℕ). Some (record { hops = n; parts = row.parts; alone = row.alone; bound = row.bound; rounds = row.rounds })) c.len.ensures ∙ there
+    let row = c.in_ok-row.row.now in
+    let low : 1 ≤ c.args.flow = grind (arith, common_steps) in
+    let high : c.args.flow ≤ length rows = grind (arith, common_steps) in
+    let is : row ≡ get_or rows (c.args.flow - 1) row = grind (arith, common_steps) in
+    ap Some c.figures.ensures ∙ figures_there rows c.args.flow row low high is
