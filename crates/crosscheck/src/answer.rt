@@ -1,38 +1,30 @@
 // What is told of a table: a row of figures for each flow, or the first refusal.
+use crate::numbered::{Cause, Reason};
 use std::fmt;
 
-// Why there is no route: the hop, from 1 (0 where it is about no hop), and the number of the cause.
+// Why there is no route: the hop, from 1 (0 where it is about no hop), and the cause.
 #[derive(Clone, Copy, PartialEq, Debug)]
 pub struct NoRoute {
     pub hop: u64,
-    pub cause: u64,
+    pub cause: Cause,
 }
 
-// The first refusal, with its number, the flow and the byte that it is about (0 for none).
+// The first refusal, with the flow and the byte that it is about (0 for none).
 #[derive(Clone, Copy, PartialEq)]
 pub struct Refusal {
-    pub number: u64,
+    pub reason: Reason,
     pub flow: u64,
     pub byte: u64,
     pub route: Option<NoRoute>,
 }
 
 impl Refusal {
-    pub fn new(number: u64, flow: u64, byte: u64) -> Refusal {
+    pub fn new(reason: Reason, flow: u64, byte: u64) -> Refusal {
         Refusal {
-            number,
+            reason,
             flow,
             byte,
             route: None,
-        }
-    }
-
-    pub fn without_route(flow: u64, byte: u64, fault: NoRoute) -> Refusal {
-        Refusal {
-            number: 7,
-            flow,
-            byte,
-            route: Some(fault),
         }
     }
 }
@@ -47,11 +39,7 @@ pub struct Row {
     pub rounds: u64,
 }
 
-#[derive(PartialEq, Drop)]
-pub enum Answer {
-    Loaded(Vec<Row>),
-    Refused(Refusal),
-}
+pub type Answer = Result<Vec<Row>, Refusal>;
 
 impl fmt::Display for Row {
     fn fmt<W: fmt::Write>(&self, f: &mut fmt::Formatter<W>) -> fmt::Result {
@@ -69,22 +57,25 @@ impl fmt::Display for Row {
     }
 }
 
+impl fmt::Display for NoRoute {
+    fn fmt<W: fmt::Write>(&self, f: &mut fmt::Formatter<W>) -> fmt::Result {
+        let NoRoute { hop, cause } = *self;
+        write!(f, "hop {hop} cause {cause}")
+    }
+}
+
 impl fmt::Display for Refusal {
     fn fmt<W: fmt::Write>(&self, f: &mut fmt::Formatter<W>) -> fmt::Result {
         let Refusal {
-            number,
+            reason,
             flow,
             byte,
             route,
         } = *self;
+        write!(f, "refused {reason} flow {flow} byte {byte}")?;
         match route {
-            Some(NoRoute { hop, cause }) => {
-                write!(
-                    f,
-                    "refused {number} flow {flow} byte {byte} hop {hop} cause {cause}"
-                )
-            }
-            None => write!(f, "refused {number} flow {flow} byte {byte}"),
+            Some(fault) => write!(f, " {fault}"),
+            None => Ok(()),
         }
     }
 }

@@ -1,19 +1,13 @@
-// One question put to both calculations: a table, a fabric to load it with, and a limit of intervals.
-
-// Which fabric is made from a file.
-#[derive(Clone, Copy)]
-pub enum Kind {
-    Mesh,
-    Listed,
-}
+// One question put to both calculations.
+use crate::second::file::File;
+use crate::second::network::Network;
 
 #[derive(Clone, Copy)]
 pub struct Case<'a, 'b> {
     // the table that is loaded
-    pub file: &'a [u8],
-    // the fabric is made from this file, which may be another table's
-    pub fabric: &'b [u8],
-    pub kind: Kind,
+    pub file: File<'a>,
+    // the fabric that it is loaded with, which another table may mean
+    pub network: Network<'b>,
     // the medium has so many intervals
     pub limit: u64,
 }

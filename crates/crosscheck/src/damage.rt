@@ -1,8 +1,8 @@
 // Damage to the bytes of a table.
 use crate::dice::Dice;
 use crate::layout::put;
-use crate::second::bytes::{flow_count, link_count, list_count, number};
-use crate::second::records::record_of;
+use crate::second::file::File;
+use crate::second::sections::Section;
 use std::alloc::{AllocError, Global};
 
 // A header field with a value at or past the end of its range: byte, width, value.
@@ -46,30 +46,28 @@ pub const LENGTHS: [usize; 12] = [0, 1, 31, 32, 33, 47, 48, 100, 400, 65534, 655
 const LONGEST: u64 = 1_000_000;
 
 fn put_field(dice: &mut Dice, file: &mut [u8]) {
-    let choice = dice.below(FIELD_VALUES.len() as u64) as usize;
-    if let Some((byte, width, value)) = FIELD_VALUES.get(choice).copied() {
-        put(file, byte, width, value);
-    }
-}
-
-// How many bytes the section has whose offset field is at a byte.
-fn section_bytes(file: &[u8], field: u64) -> u64 {
-    match field {
-        12 => flow_count(file).saturating_mul(16),
-        16 => link_count(file).saturating_mul(4),
-        20 => flow_count(file).saturating_mul(4),
-        _ => list_count(file).saturating_mul(2),
-    }
+    let (byte, width, value) = dice.pick(&FIELD_VALUES);
+    put(file, byte, width, value);
 }
 
 // Changes one number of two bytes in a section: to a neighbour, a small number or any number.
 fn change_number(dice: &mut Dice, file: &mut [u8]) {
-    let field = dice.pick(&[12, 16, 20, 20, 24, 24]);
-    let numbers = section_bytes(file, field) / 2;
-    let at = number(file, field, 4).saturating_add(dice.below(numbers).saturating_mul(2));
-    let old = number(file, at, 2);
+    let table = File { bytes: file };
+    let section = dice.pick(&[
+        Section::Flows,
+        Section::Links,
+        Section::Entries,
+        Section::Entries,
+        Section::List,
+        Section::List,
+    ]);
+    let numbers = section.bytes(table) / 2;
+    let at = section
+        .start(table)
+        .saturating_add(dice.below(numbers).saturating_mul(2));
+    let old = table.number(at, 2);
     let small = dice.below(80);
-    let listed = dice.below(link_count(file).saturating_add(3));
+    let listed = dice.below(table.links().saturating_add(3));
     let any = dice.below(65536);
     let value = dice.pick(&[
         old.saturating_add(1),
@@ -84,11 +82,12 @@ fn change_number(dice: &mut Dice, file: &mut [u8]) {
 
 // Puts a section so that it just ends within the file, one byte past it, or over another section.
 fn move_section(dice: &mut Dice, file: &mut [u8]) {
-    let field = dice.pick(&[12, 16, 20, 24]);
-    let last = (file.len() as u64).saturating_sub(section_bytes(file, field));
-    let over = number(file, dice.pick(&[12, 16, 20, 24]), 4);
+    let table = File { bytes: file };
+    let section = dice.pick(&Section::ALL);
+    let last = table.len().saturating_sub(section.bytes(table));
+    let over = dice.pick(&Section::ALL).start(table);
     let at = dice.pick(&[last, last.saturating_add(1), over]);
-    put(file, field, 4, at);
+    put(file, section as u64, 4, at);
 }
 
 fn change_byte(dice: &mut Dice, file: &mut [u8], below: u64) {
@@ -104,14 +103,10 @@ fn change_length(dice: &mut Dice, file: &mut Vec<u8>) -> Result<(), AllocError> 
 }
 
 // Whether a flow has a deadline that would take too long to try number by number.
-fn too_long(file: &[u8]) -> bool {
-    for flow in 1..=flow_count(file).min(128) {
-        let record = record_of(file, flow);
-        if record.deadline > LONGEST && record.deadline <= record.separation {
-            return true;
-        }
-    }
-    false
+fn too_long(file: File) -> bool {
+    (1..=file.flows().min(128))
+        .map(|flow| file.record(flow).flow.pace)
+        .any(|pace| pace.deadline > LONGEST && pace.deadline <= pace.separation)
 }
 
 fn change(dice: &mut Dice, file: &mut Vec<u8>) -> Result<(), AllocError> {
@@ -127,14 +122,17 @@ fn change(dice: &mut Dice, file: &mut Vec<u8>) -> Result<(), AllocError> {
 }
 
 // A copy of a table with one or two things changed.
-pub fn damaged(heap: Global, dice: &mut Dice, file: &[u8]) -> Result<Vec<u8>, AllocError> {
-    let mut copy = Vec::from_slice(heap, file)?;
+pub fn damaged(heap: Global, dice: &mut Dice, file: File) -> Result<Vec<u8>, AllocError> {
+    let mut copy = Vec::from_slice(heap, file.bytes)?;
     change(dice, &mut copy)?;
     if dice.once_in(4) {
         change(dice, &mut copy)?;
     }
-    if too_long(copy.as_slice()) {
-        return Vec::from_slice(heap, file);
+    let table = File {
+        bytes: copy.as_slice(),
+    };
+    if too_long(table) {
+        return Vec::from_slice(heap, file.bytes);
     }
     Ok(copy)
 }

@@ -39,9 +39,19 @@ impl Dice {
         self.below(times) == 0
     }
 
-    // One of some numbers; 0 where there is none.
-    pub fn pick(&mut self, from: &[u64]) -> u64 {
+    // One of some values; the default where there is none.
+    pub fn pick<T: Copy + Default>(&mut self, from: &[T]) -> T {
         let place = self.below(from.len() as u64) as usize;
-        from.get(place).copied().unwrap_or(0)
+        from.get(place).copied().unwrap_or_default()
+    }
+
+    // Swaps each value with one that is drawn; by index, since a swap takes two of the same slice.
+    pub fn shuffle<T>(&mut self, items: &mut [T]) {
+        for place in 0..items.len() {
+            let other = self.below(items.len() as u64) as usize;
+            if other < items.len() {
+                items.swap(place, other);
+            }
+        }
     }
 }

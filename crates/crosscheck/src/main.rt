@@ -10,6 +10,7 @@ mod dice;
 mod example;
 mod layout;
 mod library;
+mod numbered;
 mod plan;
 mod questions;
 mod recipe;

@@ -1,6 +1,6 @@
 // What kind of table is drawn.
 use crate::dice::Dice;
-use crate::second::records::{Slot, slot_with};
+use crate::second::records::Slot;
 use crate::shape::Shape;
 
 // How separations and deadlines are chosen.
@@ -37,7 +37,7 @@ impl Recipe {
     }
 
     pub fn slot(&self) -> Option<Slot> {
-        slot_with(self.profile, self.flows.saturating_add(self.spare))
+        Slot::new(self.profile, self.flows.saturating_add(self.spare))
     }
 }
 
@@ -108,6 +108,7 @@ fn crowd(dice: &mut Dice) -> Recipe {
 }
 
 // The same with listed links, as a ring, a tree or a grid.
+// A throw is matched, here and elsewhere: a table of closures would be longer, and would hide what each face draws.
 fn listed(dice: &mut Dice, base: Recipe) -> Recipe {
     let shape = match dice.below(3) {
         0 => Shape::Ring,

@@ -10,16 +10,18 @@ const TABLES: u64 = 20_000;
 // Draws and compares all tables; an error where one differs or a refusal or a cause was never seen.
 pub fn run(rt: &HostRuntime) -> anyhow::Result<()> {
     let mut bench = Bench {
+        rt,
         dice: Dice::new(88172645463325252),
-        tally: Tally::new(),
+        tally: Tally::new(rt.alloc()),
     };
-    bench.example(rt)?;
+    bench.example()?;
     let mut last = Vec::new(rt.alloc());
     for number in 0..TABLES {
-        last = bench.table(rt, number, last.as_slice())?;
+        last = bench.table(number, last.as_slice())?;
     }
-    bench.tally.print(rt)?;
-    if !bench.tally.complete() {
+    let tally = &bench.tally;
+    print!(rt; "{tally}")?;
+    if !tally.complete() {
         return Err(anyhow!("a refusal or a cause was never seen"));
     }
     println!(rt; "mismatches 0")?;

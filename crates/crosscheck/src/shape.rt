@@ -1,7 +1,8 @@
 // Networks that are written out as listed links and routes.
 use crate::dice::Dice;
-use crate::second::routes::Link;
+use crate::second::link::Link;
 use std::alloc::{AllocError, Global};
+use std::iter::{once, successors};
 
 // How routers are joined.
 #[derive(Clone, Copy)]
@@ -15,22 +16,15 @@ pub enum Shape {
 }
 
 fn parent(node: u64, branches: u64) -> u64 {
-    if branches == 0 {
-        return 0;
-    }
-    node.saturating_sub(1) / branches
+    node.saturating_sub(1).checked_div(branches).unwrap_or(0)
 }
 
 // The next node in a tree on the way to another: the branch that the goal is in, else the parent.
 fn tree_step(nodes: u64, branches: u64, node: u64, goal: u64) -> u64 {
-    let mut step = goal;
-    for _level in 0..nodes {
-        if step > 0 && parent(step, branches) == node {
-            return step;
-        }
-        step = parent(step, branches);
-    }
-    parent(node, branches)
+    successors(Some(goal), |step| Some(parent(*step, branches)))
+        .take(nodes as usize)
+        .find(|step| *step > 0 && parent(*step, branches) == node)
+        .unwrap_or(parent(node, branches))
 }
 
 fn grid_step(width: u64, node: u64, goal: u64) -> u64 {
@@ -50,130 +44,102 @@ fn grid_step(width: u64, node: u64, goal: u64) -> u64 {
 
 // Up the ring to an even goal, down the ring to an odd one.
 fn ring_step(nodes: u64, node: u64, goal: u64) -> u64 {
-    if nodes == 0 {
-        return node;
-    }
-    let steps = if goal % 2 == 0 { 1 } else { nodes - 1 };
-    node.saturating_add(steps) % nodes
+    let steps = if goal % 2 == 0 {
+        1
+    } else {
+        nodes.saturating_sub(1)
+    };
+    node.saturating_add(steps)
+        .checked_rem(nodes)
+        .unwrap_or(node)
 }
 
-impl Shape {
+// Nodes whose routers are joined in a shape, and their links in any order.
+#[derive(Drop)]
+pub struct Net {
+    shape: Shape,
+    nodes: u64,
+    pub links: Vec<Link>,
+}
+
+// A link there and back.
+fn join(links: &mut Vec<Link>, link: Link) -> Result<(), AllocError> {
+    links.extend_from_slice(&[link, link.back()])
+}
+
+impl Net {
     // The node that comes next on the way from one to another.
-    fn step(self, nodes: u64, node: u64, goal: u64) -> u64 {
-        match self {
-            Shape::Ring => ring_step(nodes, node, goal),
-            Shape::Tree { branches } => tree_step(nodes, branches, node, goal),
+    fn step(&self, node: u64, goal: u64) -> u64 {
+        match self.shape {
+            Shape::Ring => ring_step(self.nodes, node, goal),
+            Shape::Tree { branches } => tree_step(self.nodes, branches, node, goal),
             Shape::Grid { width } => grid_step(width, node, goal),
         }
     }
 
     // Whether a router is joined with a later one.
-    fn joined(self, nodes: u64, node: u64, later: u64) -> bool {
-        match self {
-            Shape::Ring => {
-                later == node.saturating_add(1) || (node == 0 && later.saturating_add(1) == nodes)
-            }
+    fn joins(&self, node: u64, later: u64) -> bool {
+        let next = later == node.saturating_add(1);
+        match self.shape {
+            Shape::Ring => next || (node == 0 && later.saturating_add(1) == self.nodes),
             Shape::Tree { branches } => parent(later, branches) == node,
             Shape::Grid { width } => {
-                later == node.saturating_add(width)
-                    || (width > 0 && later == node.saturating_add(1) && later % width > 0)
+                later == node.saturating_add(width) || (width > 0 && next && later % width > 0)
             }
         }
     }
-}
 
-fn core(node: u64) -> u64 {
-    node.saturating_mul(2)
-}
-
-fn router(node: u64) -> u64 {
-    core(node).saturating_add(1)
-}
-
-// Two links between two vertices, there and back.
-fn join(links: &mut Vec<Link>, start: u64, stop: u64) -> Result<(), AllocError> {
-    links.push(Link { start, stop })?;
-    links.push(Link {
-        start: stop,
-        stop: start,
-    })?;
-    Ok(())
-}
-
-// The links of all nodes, in any order.
-pub fn links_of(
-    heap: Global,
-    dice: &mut Dice,
-    shape: Shape,
-    nodes: u64,
-) -> Result<Vec<Link>, AllocError> {
-    let mut links = Vec::new(heap);
-    for node in 0..nodes {
-        join(&mut links, core(node), router(node))?;
-        for later in node.saturating_add(1)..nodes {
-            if shape.joined(nodes, node, later) {
-                join(&mut links, router(node), router(later))?;
+    pub fn draw(
+        heap: Global,
+        dice: &mut Dice,
+        shape: Shape,
+        nodes: u64,
+    ) -> Result<Net, AllocError> {
+        let mut net = Net {
+            shape,
+            nodes,
+            links: Vec::new(heap),
+        };
+        for node in 0..nodes {
+            join(&mut net.links, Link::from_core(node))?;
+            for later in node.saturating_add(1)..nodes {
+                if net.joins(node, later) {
+                    join(&mut net.links, Link::between(node, later))?;
+                }
             }
         }
+        dice.shuffle(net.links.as_mut_slice());
+        Ok(net)
     }
-    for place in 0..links.len() {
-        let other = dice.below(links.len() as u64) as usize;
-        if place < links.len() && other < links.len() {
-            links.swap(place, other);
-        }
-    }
-    Ok(links)
-}
 
-// The number of a link between two vertices; 0 where there is none.
-fn find(links: &[Link], start: u64, stop: u64) -> u64 {
-    for (number, link) in links.iter().enumerate() {
-        if link.start == start && link.stop == stop {
-            return number as u64;
-        }
+    // The number of a link; 0 where there is none.
+    fn find(&self, link: Link) -> u64 {
+        let place = self.links.iter().position(|listed| *listed == link);
+        place.unwrap_or(0) as u64
     }
-    0
-}
 
-// The links of the way from one node to another.
-pub fn way(
-    heap: Global,
-    links: &[Link],
-    shape: Shape,
-    nodes: u64,
-    source: u64,
-    destination: u64,
-) -> Result<Vec<u64>, AllocError> {
-    let mut route = Vec::new(heap);
-    route.push(find(links, core(source), router(source)))?;
-    let mut node = source;
-    for _step in 0..nodes {
-        if node != destination {
-            let next = shape.step(nodes, node, destination);
-            route.push(find(links, router(node), router(next)))?;
-            node = next;
-        }
+    // The links of the way from one node to another.
+    pub fn way(&self, heap: Global, source: u64, destination: u64) -> Result<Vec<u64>, AllocError> {
+        let steps = successors(Some(source), |node| Some(self.step(*node, destination)))
+            .take(self.nodes as usize)
+            .take_while(|node| *node != destination)
+            .map(|node| Link::between(node, self.step(node, destination)));
+        once(Link::from_core(source))
+            .chain(steps)
+            .chain(once(Link::from_core(destination).back()))
+            .map(|link| self.find(link))
+            .collect(heap)
     }
-    route.push(find(links, router(destination), core(destination)))?;
-    Ok(route)
-}
 
-// A route that takes the link at a place, goes back and takes it again.
-pub fn with_detour(
-    heap: Global,
-    links: &[Link],
-    route: &[u64],
-    place: u64,
-) -> Result<Vec<u64>, AllocError> {
-    let mut longer = Vec::new(heap);
-    for (k, number) in route.iter().enumerate() {
-        longer.push(*number)?;
-        if k as u64 == place {
-            if let Some(link) = links.get(*number as usize) {
-                longer.push(find(links, link.stop, link.start))?;
-                longer.push(*number)?;
-            }
+    // Lets a route take the link at a place, go back and take it again.
+    pub fn detour(&self, route: &mut Vec<u64>, place: usize) -> Result<(), AllocError> {
+        let Some(number) = route.get(place).copied() else {
+            return Ok(());
+        };
+        if let Some(link) = self.links.get(number as usize) {
+            route.insert(place, self.find(link.back()))?;
+            route.insert(place, number)?;
         }
+        Ok(())
     }
-    Ok(longer)
 }

@@ -1,13 +1,45 @@
 // What was seen.
 use crate::answer::{Answer, NoRoute, Row};
-use crate::case::{Case, Kind};
-use crate::second::bytes::number;
+use crate::case::Case;
+use crate::numbered::{Cause, Reason};
+use crate::second::network::Kind;
+use crate::second::records::BOARDS;
+use std::alloc::{AllocError, Global};
+use std::collections::BTreeMap;
+use std::fmt;
 
-#[derive(Clone, Copy)]
+// How often each of some cases was seen.
+#[derive(Drop)]
+struct Seen<K: Ord> {
+    times: BTreeMap<K, u64>,
+}
+
+impl<K: Ord + Copy> Seen<K> {
+    fn new(heap: Global) -> Seen<K> {
+        Seen {
+            times: BTreeMap::new(heap),
+        }
+    }
+
+    fn note(&mut self, case: K) -> Result<(), AllocError> {
+        let times = self.times.entry(case)?.or_insert(0);
+        *times = times.saturating_add(1);
+        Ok(())
+    }
+
+    fn times(&self, case: K) -> u64 {
+        self.times.get(&case).copied().unwrap_or(0)
+    }
+
+    fn has_all(&self, cases: &[K]) -> bool {
+        cases.iter().all(|case| self.times.contains_key(case))
+    }
+}
+
+#[derive(Drop)]
 pub struct Tally {
     tables: u64,
-    on_mesh: u64,
-    on_listed: u64,
+    loaded: Seen<Kind>,
     bounded: u64,
     unbounded: u64,
     // the most of a loaded table or of one flow
@@ -15,55 +47,30 @@ pub struct Tally {
     hops: u64,
     parts: u64,
     rounds: u64,
-    // by number from 1; a cause is told at load or by a fabric that is asked for a route
-    profiles: [u64; 5],
-    refusals: [u64; 10],
-    causes: [u64; 9],
-    asked: [u64; 9],
+    profiles: Seen<u64>,
+    refusals: Seen<Reason>,
+    // a cause is told at load or by a fabric that is asked for a route
+    causes: Seen<Cause>,
+    asked: Seen<Cause>,
     // routes that a fabric told
     routes: u64,
 }
 
-fn count(counts: &mut [u64], number: u64) {
-    let place = number as usize;
-    if place < counts.len() {
-        counts[place] = counts[place].saturating_add(1);
-    }
-}
-
-// Whether each number from 1 to the last was seen.
-fn all_seen(counts: &[u64], last: usize) -> bool {
-    for seen in counts.iter().take(last.saturating_add(1)).skip(1) {
-        if *seen == 0 {
-            return false;
-        }
-    }
-    true
-}
-
-fn print_counts(rt: &HostRuntime, what: &str, counts: &[u64]) -> anyhow::Result<()> {
-    for (number, seen) in counts.iter().enumerate().skip(1) {
-        println!(rt; "{what} {number}: {seen}")?;
-    }
-    Ok(())
-}
-
 impl Tally {
-    pub fn new() -> Tally {
+    pub fn new(heap: Global) -> Tally {
         Tally {
             tables: 0,
-            on_mesh: 0,
-            on_listed: 0,
+            loaded: Seen::new(heap),
             bounded: 0,
             unbounded: 0,
             flows: 0,
             hops: 0,
             parts: 0,
             rounds: 0,
-            profiles: [0; 5],
-            refusals: [0; 10],
-            causes: [0; 9],
-            asked: [0; 9],
+            profiles: Seen::new(heap),
+            refusals: Seen::new(heap),
+            causes: Seen::new(heap),
+            asked: Seen::new(heap),
             routes: 0,
         }
     }
@@ -76,8 +83,8 @@ impl Tally {
         self.routes = self.routes.saturating_add(1);
     }
 
-    pub fn note_asked(&mut self, fault: NoRoute) {
-        count(&mut self.asked, fault.cause);
+    pub fn note_asked(&mut self, fault: NoRoute) -> Result<(), AllocError> {
+        self.asked.note(fault.cause)
     }
 
     fn note_row(&mut self, row: &Row) {
@@ -90,27 +97,26 @@ impl Tally {
         self.rounds = self.rounds.max(row.rounds);
     }
 
-    fn note_loaded(&mut self, case: &Case, rows: &[Row]) {
-        match case.kind {
-            Kind::Mesh => self.on_mesh = self.on_mesh.saturating_add(1),
-            Kind::Listed => self.on_listed = self.on_listed.saturating_add(1),
-        }
-        count(&mut self.profiles, number(case.file, 6, 2));
+    fn note_loaded(&mut self, case: &Case, rows: &[Row]) -> Result<(), AllocError> {
+        self.loaded.note(case.network.kind)?;
+        self.profiles.note(case.file.profile())?;
         self.flows = self.flows.max(rows.len() as u64);
         for row in rows {
             self.note_row(row);
         }
+        Ok(())
     }
 
     // Counts a case with its answer.
-    pub fn note(&mut self, case: &Case, answer: &Answer) {
+    pub fn note(&mut self, case: &Case, answer: &Answer) -> Result<(), AllocError> {
         self.tables = self.tables.saturating_add(1);
         match answer {
-            Answer::Loaded(rows) => self.note_loaded(case, rows.as_slice()),
-            Answer::Refused(refusal) => {
-                count(&mut self.refusals, refusal.number);
-                if let Some(fault) = refusal.route {
-                    count(&mut self.causes, fault.cause);
+            Ok(rows) => self.note_loaded(case, rows.as_slice()),
+            Err(refusal) => {
+                self.refusals.note(refusal.reason)?;
+                match refusal.route {
+                    Some(fault) => self.causes.note(fault.cause),
+                    None => Ok(()),
                 }
             }
         }
@@ -118,10 +124,21 @@ impl Tally {
 
     // Whether every refusal was seen, every cause when asked, and at load all but the last, which load never meets.
     pub fn complete(&self) -> bool {
-        all_seen(&self.refusals, 9) && all_seen(&self.asked, 8) && all_seen(&self.causes, 7)
+        self.refusals.has_all(&Reason::ALL)
+            && self.asked.has_all(&Cause::ALL)
+            && self.causes.has_all(&Cause::ALL[..7])
     }
+}
 
-    fn print_sizes(&self, rt: &HostRuntime) -> anyhow::Result<()> {
+impl fmt::Display for Tally {
+    fn fmt<W: fmt::Write>(&self, f: &mut fmt::Formatter<W>) -> fmt::Result {
+        let tables = self.tables;
+        let on_mesh = self.loaded.times(Kind::Mesh);
+        let on_listed = self.loaded.times(Kind::Listed);
+        writeln!(
+            f,
+            "tables {tables}: {on_mesh} loaded on a mesh, {on_listed} on listed links"
+        )?;
         let Tally {
             bounded,
             unbounded,
@@ -129,34 +146,29 @@ impl Tally {
             hops,
             parts,
             rounds,
-            ..
-        } = *self;
-        println!(rt; "flows {bounded} bounded, {unbounded} unbounded")?;
-        println!(rt; "at most {flows} flows, {hops} hops, {parts} parts, {rounds} rounds")?;
-        Ok(())
-    }
-
-    fn print_causes(&self, rt: &HostRuntime) -> anyhow::Result<()> {
-        let counts = self.causes.iter().zip(self.asked.iter());
-        for (number, (loads, asked)) in counts.enumerate().skip(1) {
-            println!(rt; "cause {number}: {loads} at load, {asked} asked")?;
-        }
-        Ok(())
-    }
-
-    pub fn print(&self, rt: &HostRuntime) -> anyhow::Result<()> {
-        let Tally {
-            tables,
-            on_mesh,
-            on_listed,
             routes,
             ..
-        } = *self;
-        println!(rt; "tables {tables}: {on_mesh} loaded on a mesh, {on_listed} on listed links")?;
-        self.print_sizes(rt)?;
-        print_counts(rt, "profile", &self.profiles)?;
-        print_counts(rt, "refusal", &self.refusals)?;
-        println!(rt; "routes {routes} asked")?;
-        self.print_causes(rt)
+        } = self;
+        writeln!(f, "flows {bounded} bounded, {unbounded} unbounded")?;
+        writeln!(
+            f,
+            "at most {flows} flows, {hops} hops, {parts} parts, {rounds} rounds"
+        )?;
+        for board in BOARDS {
+            let profile = board.profile;
+            let loaded = self.profiles.times(profile);
+            writeln!(f, "profile {profile}: {loaded}")?;
+        }
+        for reason in Reason::ALL {
+            let told = self.refusals.times(reason);
+            writeln!(f, "refusal {reason}: {told}")?;
+        }
+        writeln!(f, "routes {routes} asked")?;
+        for cause in Cause::ALL {
+            let at_load = self.causes.times(cause);
+            let asked = self.asked.times(cause);
+            writeln!(f, "cause {cause}: {at_load} at load, {asked} asked")?;
+        }
+        Ok(())
     }
 }

@@ -1,22 +1,39 @@
 // The bound of each flow, by trying every number up to its deadline, and its rounds, by counting.
 use crate::second::cutting::Cut;
-use crate::second::records::{Record, Slot};
+use crate::second::records::{Flow, Slot};
 use std::alloc::{AllocError, Global};
+use std::iter::successors;
 
 // A flow with a route that can carry it.
 #[derive(Drop)]
 pub struct Carried {
-    pub record: Record,
+    pub flow: Flow,
     pub links: Vec<u64>,
     pub cut: Cut,
 }
 
-// What came out for a flow: the flows above it that share a link, its bound and its rounds.
+impl Carried {
+    // Whether a link stands in both routes.
+    fn shares(&self, other: &Carried) -> bool {
+        self.links.iter().any(|link| other.links.contains(link))
+    }
+}
+
+// A flow with what came out for it: its bound and its rounds.
 #[derive(Drop)]
 pub struct Settled {
-    pub above: Vec<usize>,
+    pub carried: Carried,
+    // the places, from 0, of the flows above it that share a link with it
+    above: Vec<usize>,
     pub bound: Option<u64>,
     pub rounds: u64,
+}
+
+impl Settled {
+    // Whether some flow above it is none of these.
+    fn hides(&self, above: &[usize]) -> bool {
+        self.above.iter().any(|place| !above.contains(place))
+    }
 }
 
 // What a flow above takes: so many cycles for each separation in the time with the jitter added.
@@ -27,159 +44,139 @@ struct Load {
     cycles: u64,
 }
 
-fn share(a: &[u64], b: &[u64]) -> bool {
-    for link in a {
-        if b.contains(link) {
-            return true;
+// A number is a bound if the loads within it and the base add up to it.
+#[derive(Drop)]
+struct Equation {
+    base: u64,
+    loads: Vec<Load>,
+    deadline: u64,
+}
+
+impl Load {
+    fn within(&self, x: u64) -> u64 {
+        if self.separation == 0 {
+            return 0;
         }
+        let times = x.saturating_add(self.jitter).div_ceil(self.separation);
+        times.saturating_mul(self.cycles)
     }
-    false
 }
 
-// The places, from 0, of the flows above the flow at a place that share a link with it.
-fn sharing(heap: Global, flows: &[Carried], place: usize) -> Result<Vec<usize>, AllocError> {
-    let mut above = Vec::new(heap);
-    let Some(flow) = flows.get(place) else {
-        return Ok(above);
-    };
-    for (h, higher) in flows.iter().take(place).enumerate() {
-        if share(higher.links.as_slice(), flow.links.as_slice()) {
-            above.push(h)?;
-        }
+impl Equation {
+    fn right_side(&self, x: u64) -> u64 {
+        let loads = self.loads.iter();
+        loads.fold(self.base, |sum, load| sum.saturating_add(load.within(x)))
     }
-    Ok(above)
-}
 
-// Whether some flow above a higher flow shares no link with this one.
-fn unseen(above_higher: &[usize], above: &[usize]) -> bool {
-    for g in above_higher {
-        if !above.contains(g) {
-            return true;
-        }
+    // The first number from 0 to the deadline that the right side gives back.
+    fn first_solution(&self) -> Option<u64> {
+        (0..=self.deadline).find(|x| self.right_side(*x) == *x)
     }
-    false
+
+    // How often the right side is worked out, from the base on, until it gives its argument back or passes the
+    // deadline.
+    fn count_rounds(&self) -> u64 {
+        let within = |x: &u64| *x <= self.deadline;
+        let tried = successors(Some(self.base).filter(within), |x| {
+            Some(self.right_side(*x)).filter(|next| next != x && within(next))
+        });
+        tried.take(self.deadline as usize).count() as u64
+    }
 }
 
-// The load of one flow above; none where that flow has no bound.
-fn load_of(slot: &Slot, higher: &Carried, settled: &Settled, above: &[usize]) -> Option<Load> {
-    let bound = settled.bound?;
-    let cut = higher.cut;
-    let late = bound.saturating_add(slot.board.pause);
-    let jitter = late.saturating_sub(cut.alone).saturating_sub(slot.whole);
-    let indirect = unseen(settled.above.as_slice(), above);
-    Some(Load {
-        jitter: if indirect { jitter } else { 0 },
-        separation: higher.record.separation,
-        cycles: cut.parts.saturating_mul(slot.whole),
-    })
-}
-
-// The loads of all flows above; none where one of them has no bound.
-fn loads(
+// The flows of a table that are settled so far.
+#[derive(Drop)]
+struct Ranking {
     heap: Global,
-    slot: &Slot,
-    flows: &[Carried],
-    settled: &[Settled],
-    above: &[usize],
-) -> Result<Option<Vec<Load>>, AllocError> {
-    let mut all = Vec::new(heap);
-    for h in above {
-        let (Some(higher), Some(result)) = (flows.get(*h), settled.get(*h)) else {
-            return Ok(None);
+    slot: Slot,
+    settled: Vec<Settled>,
+}
+
+impl Ranking {
+    // The places, from 0, of the flows that share a link with the next one.
+    fn above(&self, next: &Carried) -> Result<Vec<usize>, AllocError> {
+        self.settled
+            .iter()
+            .enumerate()
+            .filter(|(_, higher)| higher.carried.shares(next))
+            .map(|(place, _)| place)
+            .collect(self.heap)
+    }
+
+    // The load of a flow above; none where that flow has no bound.
+    fn load_of(&self, place: usize, above: &[usize]) -> Option<Load> {
+        let higher = self.settled.get(place)?;
+        let cut = higher.carried.cut;
+        let late = higher.bound?.saturating_add(self.slot.board.pause);
+        let jitter = late
+            .saturating_sub(cut.alone)
+            .saturating_sub(self.slot.whole);
+        Some(Load {
+            jitter: if higher.hides(above) { jitter } else { 0 },
+            separation: higher.carried.flow.pace.separation,
+            cycles: cut.parts.saturating_mul(self.slot.whole),
+        })
+    }
+
+    // The wait for the own interval and the slot after it, and the flow alone.
+    fn base_of(&self, cut: &Cut) -> u64 {
+        let slot = &self.slot;
+        let interval_end = (self.settled.len() as u64)
+            .saturating_add(1)
+            .saturating_mul(slot.board.interval);
+        let own = slot
+            .open
+            .saturating_sub(interval_end)
+            .saturating_add(slot.board.pause);
+        own.saturating_add(slot.whole).saturating_add(cut.alone)
+    }
+
+    // The equation of the next flow; none where a flow above it has no bound.
+    fn equation(&self, next: &Carried, above: &[usize]) -> Result<Option<Equation>, AllocError> {
+        let mut loads = Vec::new(self.heap);
+        for place in above {
+            let Some(load) = self.load_of(*place, above) else {
+                return Ok(None);
+            };
+            loads.push(load)?;
+        }
+        Ok(Some(Equation {
+            base: self.base_of(&next.cut),
+            loads,
+            deadline: next.flow.pace.deadline,
+        }))
+    }
+
+    // Bound and rounds of the next flow.
+    fn settle(&mut self, next: Carried) -> Result<(), AllocError> {
+        let above = self.above(&next)?;
+        let (bound, rounds) = match self.equation(&next, above.as_slice())? {
+            Some(equation) => (equation.first_solution(), equation.count_rounds()),
+            None => (None, 0),
         };
-        let Some(load) = load_of(slot, higher, result, above) else {
-            return Ok(None);
-        };
-        all.push(load)?;
+        self.settled.push(Settled {
+            carried: next,
+            above,
+            bound,
+            rounds,
+        })?;
+        Ok(())
     }
-    Ok(Some(all))
-}
-
-fn right_side(base: u64, loads: &[Load], x: u64) -> u64 {
-    let mut sum = base;
-    for load in loads {
-        if load.separation > 0 {
-            let times = x.saturating_add(load.jitter).div_ceil(load.separation);
-            sum = sum.saturating_add(times.saturating_mul(load.cycles));
-        }
-    }
-    sum
-}
-
-// The first number from 0 to the deadline that the right side gives back.
-fn first_solution(base: u64, loads: &[Load], deadline: u64) -> Option<u64> {
-    for x in 0..=deadline {
-        if right_side(base, loads, x) == x {
-            return Some(x);
-        }
-    }
-    None
-}
-
-// How often the right side is worked out, from the base on, until it gives its argument back or passes the deadline.
-fn count_rounds(base: u64, loads: &[Load], deadline: u64) -> u64 {
-    if base > deadline {
-        return 0;
-    }
-    let mut x = base;
-    for round in 1..=deadline {
-        let next = right_side(base, loads, x);
-        if next == x || next > deadline {
-            return round;
-        }
-        x = next;
-    }
-    0
-}
-
-// The wait for the own interval and the slot after it, and the flow alone.
-fn base_of(slot: &Slot, place: usize, cut: &Cut) -> u64 {
-    let interval_end = (place as u64)
-        .saturating_add(1)
-        .saturating_mul(slot.board.interval);
-    let own = slot
-        .open
-        .saturating_sub(interval_end)
-        .saturating_add(slot.board.pause);
-    own.saturating_add(slot.whole).saturating_add(cut.alone)
-}
-
-// Bound and rounds of the flow at a place, after those above it.
-fn settle(
-    heap: Global,
-    slot: &Slot,
-    flows: &[Carried],
-    settled: &[Settled],
-    place: usize,
-) -> Result<Settled, AllocError> {
-    let above = sharing(heap, flows, place)?;
-    let mut bound = None;
-    let mut rounds = 0;
-    if let (Some(flow), Some(loads)) = (
-        flows.get(place),
-        loads(heap, slot, flows, settled, above.as_slice())?,
-    ) {
-        let base = base_of(slot, place, &flow.cut);
-        bound = first_solution(base, loads.as_slice(), flow.record.deadline);
-        rounds = count_rounds(base, loads.as_slice(), flow.record.deadline);
-    }
-    Ok(Settled {
-        above,
-        bound,
-        rounds,
-    })
 }
 
 // What comes out for each flow.
 pub fn settle_all(
     heap: Global,
-    slot: &Slot,
-    flows: &[Carried],
+    slot: Slot,
+    flows: Vec<Carried>,
 ) -> Result<Vec<Settled>, AllocError> {
-    let mut settled = Vec::new(heap);
-    for place in 0..flows.len() {
-        let next = settle(heap, slot, flows, settled.as_slice(), place)?;
-        settled.push(next)?;
+    let mut ranking = Ranking {
+        heap,
+        slot,
+        settled: Vec::new(heap),
+    };
+    for next in flows {
+        ranking.settle(next)?;
     }
-    Ok(settled)
+    Ok(ranking.settled)
 }
