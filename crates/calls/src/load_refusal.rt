@@ -1,6 +1,6 @@
 // Why the load of a run is refused.
-ghost use Rattle.std.specs.Prelude.{◌≡◌};
-ghost use Rattle.calls.specs.LoadRefusals.{load_number, load_flow, load_byte};
+ghost use Rattle.std.specs.Prelude.{◌≡◌, Some};
+ghost use Rattle.calls.specs.LoadRefusals.{load_number, load_flow, load_byte, load_line};
 ghost use Rattle.calls.specs.declared.load_refusal.LoadRefusal.TheVariants.{Fault};
 ghost use Rattle.table.specs.declared.fault.LoadFault.TheVariants.{NoMemory};
 
@@ -75,6 +75,8 @@ impl<T: Drop> From<AllocFailed<T>> for LoadRefusal {
 
 // The one line that reports a refusal, as a table's refusal is reported.
 impl fmt::Display for LoadRefusal {
+    ghost output = { λ refusal. Some (load_line refusal) };
+
     fn fmt<W: fmt::Write>(&self, f: &mut fmt::Formatter<W>) -> fmt::Result {
         if let LoadRefusal::Fault(fault) = self {
             return fault.fmt(f);
