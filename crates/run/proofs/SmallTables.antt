@@ -35,7 +35,7 @@ use Rattle.run.proofs.Loads.{opened_first}
 -- the profile of a header that knows one
 there : (o : Option Profile) → is_some o ≡ true → Some (unwrap_or o no_profile) ≡ o
 there (Some p) e = refl
-there None e = absurd (both_ways false refl e)
+there None e = cc
 
 -- a built-in profile is quick
 record Quick (p : Profile) : Type 0 where
@@ -46,16 +46,16 @@ quick_at : (q p : Profile) → ◌≡◌ {A = Option Profile} (Some p) (Some q) 
 quick_at q p e a b = let same : q ≡ p = cc in subst Quick same (record { routing = a; transfer = b })
 
 quick : (n : ℕ) (p : Profile) → Some p ≡ profile_at n → Quick p
-quick zero p e = let z : ◌≡◌ {A = ℕ} 0 1 = cc in absurd (omega arith)
+quick zero p e = cc
 quick (suc zero) p e = quick_at (record { interval = 1; routing = 3; transfer = 1; pause = 0; flit = 4 }) p e (omega arith) (omega arith)
 quick (suc (suc zero)) p e = quick_at (record { interval = 1; routing = 3; transfer = 1; pause = 6; flit = 4 }) p e (omega arith) (omega arith)
 quick (suc (suc (suc zero))) p e = quick_at (record { interval = 4; routing = 3; transfer = 2; pause = 8; flit = 8 }) p e (omega arith) (omega arith)
 quick (suc (suc (suc (suc zero)))) p e = quick_at (record { interval = 2; routing = 1; transfer = 1; pause = 0; flit = 16 }) p e (omega arith) (omega arith)
-quick (suc (suc (suc (suc (suc n))))) p e = let z : ◌≡◌ {A = ℕ} 0 1 = cc in absurd (omega arith)
+quick (suc (suc (suc (suc (suc n))))) p e = cc
 
 -- a check that passes
 clear_head : (t : Bool) (f : LoadFault) (rest : List (Bool × LoadFault)) → first_fault ((t, f) ∷ rest) ≡ None → t ≡ false
-clear_head true f rest e = let z : ◌≡◌ {A = ℕ} 0 1 = cc in absurd (omega arith)
+clear_head true f rest e = cc
 clear_head false f rest e = refl
 
 record Sized (nodes : ℕ) (r : FlowRecord) : Type 0 where
