@@ -1,5 +1,5 @@
 -- The checks of a load that need no memory are the first of them. Assumes nothing.
-use Rattle.std.proofs.Common.{◌≡◌, ℕ, Bool, true, false, List, ◌++◌, length, IfOk, Some, None, Option, Ok, Err, Result, refl, ap, ◌∙◌, arith}
+use Rattle.std.proofs.Common.{◌≡◌, ℕ, Bool, true, false, List, ◌++◌, length, IfOk, Some, None, Option, Ok, Err, Result, refl, ap, ◌∙◌}
 use Rattle.analysis.specs.Answers.{Exactly}
 use Rattle.analysis.specs.Loading.{load_checks, open_checks, flow_checks, misfit_checks, timing_of}
 use Rattle.calls.specs.declared.load_refusal.LoadRefusal.{LoadRefusal}
