@@ -4,6 +4,7 @@ ghost use Rattle.calls.specs.LoadRefusals.{load_number, load_flow, load_byte};
 ghost use Rattle.calls.specs.declared.load_refusal.LoadRefusal.TheVariants.{Fault};
 ghost use Rattle.table.specs.declared.fault.LoadFault.TheVariants.{NoMemory};
 
+use crate::refusal::Refusal;
 use std::alloc::{AllocError, AllocFailed};
 use std::fmt;
 use table::fault::LoadFault;
@@ -22,7 +23,7 @@ impl LoadRefusal {
         ensures { result ≡ load_number self }
     {
         match self {
-            LoadRefusal::Owed => Some(21),
+            LoadRefusal::Owed => Some(Refusal::Owed.number()),
             LoadRefusal::Fault(fault) => fault.number(),
         }
     }
@@ -75,9 +76,12 @@ impl<T: Drop> From<AllocFailed<T>> for LoadRefusal {
 // The one line that reports a refusal, as a table's refusal is reported.
 impl fmt::Display for LoadRefusal {
     fn fmt<W: fmt::Write>(&self, f: &mut fmt::Formatter<W>) -> fmt::Result {
-        match self {
-            LoadRefusal::Owed => f.write_str("refused 21 flow 0 byte 0"),
-            LoadRefusal::Fault(fault) => fault.fmt(f),
+        if let LoadRefusal::Fault(fault) = self {
+            return fault.fmt(f);
         }
+        let number = Refusal::Owed.number();
+        let flow = self.flow();
+        let byte = self.byte();
+        write!(f, "refused {number} flow {flow} byte {byte}")
     }
 }

@@ -13,5 +13,6 @@ pub struct Record {
     // when its last part arrived, 0 while it is open
     pub arrival: u64,
     // it is open: some of its parts have no grant yet
+    // beside the arrival, since the ledger's form is fixed: whoever alters it may write any of both
     pub pending: bool,
 }

@@ -5,27 +5,27 @@ ghost use Rattle.calls.specs.Refusals.{number_of};
 #[derive(Clone, Copy, PartialEq, Eq)]
 pub enum Refusal {
     // there is no such flow
-    NoFlow,
+    NoFlow = 10,
     // the run has ended
-    Ended,
+    Ended = 20,
     // an injection is owed
-    Owed,
+    Owed = 21,
     // the release belongs to an earlier slot
-    Late,
+    Late = 22,
     // the release belongs to a later slot
-    Ahead,
+    Ahead = 23,
     // the release comes before the flow's separation is over
-    Soon,
+    Soon = 24,
     // the flow has an open packet
-    Busy,
+    Busy = 25,
     // the ledger is shorter than its count of records
-    ShortLedger,
+    ShortLedger = 26,
     // the ledger has no place left
-    FullLedger,
+    FullLedger = 27,
     // the slip names another run, or not the slot that awaits its injection
-    WrongSlip,
+    WrongSlip = 28,
     // the last slot that can be counted has come
-    LastSlot,
+    LastSlot = 29,
 }
 
 impl Refusal {
@@ -33,18 +33,6 @@ impl Refusal {
     pub fn number(self) -> u8
         ensures { result ≡ number_of self }
     {
-        match self {
-            Refusal::NoFlow => 10,
-            Refusal::Ended => 20,
-            Refusal::Owed => 21,
-            Refusal::Late => 22,
-            Refusal::Ahead => 23,
-            Refusal::Soon => 24,
-            Refusal::Busy => 25,
-            Refusal::ShortLedger => 26,
-            Refusal::FullLedger => 27,
-            Refusal::WrongSlip => 28,
-            Refusal::LastSlot => 29,
-        }
+        self as u8
     }
 }

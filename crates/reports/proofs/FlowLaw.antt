@@ -1,12 +1,11 @@
 -- The flow that a verdict tells is the one whose bound comes closest to its deadline. Assumes nothing.
-use Rattle.std.proofs.Common.{◌≡◌, ℕ, ◌+◌, ◌-◌, ◌<◌, true, false, List, [], ◌∷◌, length, get_or, Some, None, Option, sym, refl, ap, ◌∙◌, subst, inl, inr, arith}
-use Rattle.std.proofs.lemmas.Bool.{cases_Bool}
+use Rattle.std.proofs.Common.{◌≡◌, ℕ, ◌+◌, ◌-◌, ◌<◌, List, [], ◌∷◌, length, get_or, Some, None, Option, sym, refl, ap, ◌∙◌, subst, arith}
 use Rattle.rows.specs.declared.flow_row.FlowRow.{FlowRow}
 use Rattle.rows.specs.Blank.{no_row}
 use Rattle.tightest.specs.Order.{tightest_of}
 use Rattle.tightest.specs.Counted.{counted}
 use Rattle.tightest.specs.Numbers.{lower}
-use Rattle.tightest.proofs.InTurn.{by_numbers, lower_level}
+use Rattle.tightest.proofs.InTurn.{by_numbers, one_lower}
 use Rattle.tightest.proofs.Picking.{Picks, picks}
 use Rattle.reports.specs.declared.slack.Slack.{Slack}
 use Rattle.reports.specs.Verdicts.{slack_with, slack_at, slack_ranks, nearer, flow_of, tightest_flow, Bounded, Nearest, TightestFlow}
@@ -23,17 +22,10 @@ record Made (i deadline : ℕ) (o : Option ℕ) (s : Slack) : Type 0 where
 
 made_why : (i deadline : ℕ) (o : Option ℕ) (s : Slack) → slack_with i deadline o ≡ Some s → Made i deadline o s
 unfolding flow
-made_why i deadline None s e = let z : ◌≡◌ {A = ℕ} 0 1 = cc in absurd (omega arith)
+made_why i deadline None s e = absurd cc
 made_why i deadline (Some b) s e =
     let is : s ≡ flow i (deadline - b) = cc in
     record { bound = b; bounded = refl; left = ap (λ (x : Slack). x.left) is; is = ap (λ (x : Slack). x.flow) is }
-
-level : (i j m n : ℕ) → (j ≡ i → ⊥) → lower (n ∷ j ∷ []) (m ∷ i ∷ []) ≡ false → lower (m ∷ i ∷ []) (n ∷ j ∷ []) ≡ true
-level i j m n apart back =
-    elim (cases_Bool (lower (m ∷ i ∷ []) (n ∷ j ∷ []))) [
-      | inl front ↦ front
-      | inr not ↦ absurd (apart (ap (λ (xs : List ℕ). get_or xs 1 0) (lower_level (n ∷ j ∷ []) (m ∷ i ∷ []) back not)))
-    ]
 
 module _ (rows : List FlowRow) where
   -- a bounded flow is told at its place
@@ -73,7 +65,7 @@ module _ (rows : List FlowRow) where
         others =
             λ j m apart b.
             let back = h.none_before (j - 1) (flow j m) (omega (arith, b.first, b.last)) (told_at j m b) in
-            level (p + 1) j s.left m apart (sym (ap (λ (n : ℕ). lower (m ∷ j ∷ []) (s.left ∷ n ∷ [])) found.0) ∙ back);
+            one_lower (s.left ∷ (p + 1) ∷ []) (m ∷ j ∷ []) (λ e. apart (ap (λ (xs : List ℕ). get_or xs 1 0) (sym e))) (sym (ap (λ (n : ℕ). lower (m ∷ j ∷ []) (s.left ∷ n ∷ [])) found.0) ∙ back);
       })
 
   pub flow_law : TightestFlow rows (tightest_flow rows)

@@ -1,4 +1,5 @@
 pub mod Counting
+pub mod Orders
 pub mod Turns
 pub mod RecordLaw
 pub mod FlowLaw

@@ -1,13 +1,13 @@
 -- The place that a report tells is that of the record that came closest to its bound. Assumes nothing.
-use Rattle.std.proofs.Common.{◌≡◌, ℕ, ◌-◌, ◌≤◌, true, false, ◌||◌, ltb, List, get_or, Some, None, Option, sym, refl, ap, ◌∙◌, subst, inl, inr, arith}
-use Rattle.std.proofs.lemmas.Bool.{cases_Bool, or_parts, or_from, ltb-false, le-ltb, cond-true, cond-false}
+use Rattle.std.proofs.Common.{◌≡◌, ℕ, ◌-◌, ◌≤◌, List, get_or, Some, None, Option, sym, refl, ap, ◌∙◌, subst, arith}
+use Rattle.std.proofs.lemmas.Bool.Decides.{nat_tests}
 use Rattle.calls.specs.declared.record.Record.{Record}
 use Rattle.calls.specs.Events.{no_record}
 use Rattle.rows.specs.declared.flow_row.FlowRow.{FlowRow}
 use Rattle.tightest.specs.Order.{tightest_of}
 use Rattle.tightest.specs.Counted.{counted}
 use Rattle.tightest.specs.Numbers.{lower}
-use Rattle.tightest.proofs.InTurn.{by_numbers, lower_level}
+use Rattle.tightest.proofs.InTurn.{by_numbers, one_lower}
 use Rattle.tightest.proofs.Picking.{Picks, picks}
 use Rattle.reports.specs.declared.timely.Timely.{Timely}
 use Rattle.reports.specs.Margins.{bound_for, left_of, margin_of, timely_with, timely_at, timely_ranks, closer, place_of, tightest_record, InTime, record_ranks, Closest, TightestRecord}
@@ -20,49 +20,23 @@ record Left (latency : ℕ) (o : Option ℕ) (m : ℕ) : Type 0 where
   pub left : m ≡ bound - latency
 
 left_why : (latency : ℕ) (o : Option ℕ) (m : ℕ) → left_of latency o ≡ Some m → Left latency o m
-left_why latency None m e = let z : ◌≡◌ {A = ℕ} 0 1 = cc in absurd (omega arith)
-left_why latency (Some b) m e =
-    elim (cases_Bool (ltb b latency)) [
-      | inl late ↦
-          let none : None ≡ Some m = sym (cond-true (ltb b latency) None (Some (b - latency)) late) ∙ e in
-          let z : ◌≡◌ {A = ℕ} 0 1 = cc in
-          absurd (omega arith)
-      | inr soon ↦
-          let some : Some (b - latency) ≡ Some m = sym (cond-false (ltb b latency) None (Some (b - latency)) soon) ∙ e in
-          let same : m ≡ b - latency = cc in
-          record { bound = b; is = refl; within = ltb-false b latency soon; left = same }
-    ]
+left_why latency None m e = absurd cc
+left_why latency (Some b) m e = record { bound = b; is = refl; within = grind (arith, nat_tests); left = grind (arith, nat_tests) }
 
 pub in_time : (rows : List FlowRow) (r : Record) (m : ℕ) → margin_of rows r ≡ Some m → InTime rows r m
 in_time rows r m e =
-    let out = r.pending || ltb r.arrival r.release in
-    let left = left_of (r.arrival - r.release) (bound_for rows r.flow) in
-    elim (cases_Bool out) [
-      | inl bad ↦
-          let none : None ≡ Some m = sym (cond-true out None left bad) ∙ e in
-          let z : ◌≡◌ {A = ℕ} 0 1 = cc in
-          absurd (omega arith)
-      | inr good ↦
-          let parts = or_parts r.pending (ltb r.arrival r.release) good in
-          let why = left_why (r.arrival - r.release) (bound_for rows r.flow) m (sym (cond-false out None left good) ∙ e) in
-          record {
-            bound = why.bound;
-            bounded = why.is;
-            arrived = parts.0;
-            after = ltb-false r.arrival r.release parts.1;
-            within = why.within;
-            left = why.left;
-          }
-    ]
+    let why = left_why (r.arrival - r.release) (bound_for rows r.flow) m (grind (arith, nat_tests)) in
+    record {
+      bound = why.bound;
+      bounded = why.is;
+      arrived = grind (arith, nat_tests);
+      after = grind (arith, nat_tests);
+      within = why.within;
+      left = why.left;
+    }
 
 pub margin_of_lem : (rows : List FlowRow) (r : Record) (m : ℕ) → InTime rows r m → margin_of rows r ≡ Some m
-margin_of_lem rows r m h =
-    let latency = r.arrival - r.release in
-    cond-false (r.pending || ltb r.arrival r.release) None (left_of latency (bound_for rows r.flow))
-    (or_from r.pending (ltb r.arrival r.release) h.arrived (le-ltb r.arrival r.release h.after))
-    ∙ ap (left_of latency) h.bounded
-    ∙ cond-false (ltb h.bound latency) None (Some (h.bound - latency)) (le-ltb h.bound latency h.within)
-    ∙ ap (λ (n : ℕ). Some n) (sym h.left)
+margin_of_lem rows r m h = rw (h.bounded, h.arrived) (grind (arith, nat_tests, h.after, h.within, h.left))
 
 -- the packet of a record that stands at p, with a margin
 packet : Record → ℕ → ℕ → Timely
@@ -74,21 +48,13 @@ record Made (r : Record) (p : ℕ) (o : Option ℕ) (t : Timely) : Type 0 where
 
 made_why : (r : Record) (p : ℕ) (o : Option ℕ) (t : Timely) → timely_with r p o ≡ Some t → Made r p o t
 unfolding packet
-made_why r p None t e = let z : ◌≡◌ {A = ℕ} 0 1 = cc in absurd (omega arith)
+made_why r p None t e = absurd cc
 made_why r p (Some m) t e =
     let is : packet r p m ≡ t = cc in
     let same : m ≡ t.margin = ap (λ (x : Timely). x.margin) is in
     record { margin = ap (λ (n : ℕ). Some n) same; is = sym is ∙ ap (packet r p) same }
 
 module _ (rows : List FlowRow) (k : List Record) where
-  -- two places that are level are one
-  level : (p q m n : ℕ) → (q ≡ p → ⊥) → lower (record_ranks k q n) (record_ranks k p m) ≡ false → lower (record_ranks k p m) (record_ranks k q n) ≡ true
-  level p q m n apart back =
-      elim (cases_Bool (lower (record_ranks k p m) (record_ranks k q n))) [
-        | inl front ↦ front
-        | inr not ↦ absurd (apart (ap (λ (xs : List ℕ). get_or xs 3 0) (lower_level (record_ranks k q n) (record_ranks k p m) back not)))
-      ]
-
   law_from : (o : Option Timely) → Picks closer (timely_at rows) no_record k o → TightestRecord rows k (place_of o)
   unfolding packet
   law_from None h = λ p m l timely.
@@ -106,7 +72,7 @@ module _ (rows : List FlowRow) (k : List Record) where
             λ q m l apart timely.
             let s = get_or k q no_record in
             let back = h.none_before q (packet s q m) l (ap (timely_with s q) (margin_of_lem rows s m timely)) in
-            level p q t.margin m apart (sym (ap (λ (x : Timely). lower (record_ranks k q m) (timely_ranks x)) made.is) ∙ back);
+            one_lower (record_ranks k p t.margin) (record_ranks k q m) (λ e. apart (ap (λ (xs : List ℕ). get_or xs 3 0) (sym e))) (sym (ap (λ (x : Timely). lower (record_ranks k q m) (timely_ranks x)) made.is) ∙ back);
       })
 
   pub record_law : TightestRecord rows k (tightest_record rows k)

@@ -1,38 +1,24 @@
 // The verdict on a flow.
 ghost use Rattle.std.specs.Prelude.{◌≡◌, IfOk};
-ghost use Rattle.analysis.specs.Answers.{figures_of};
 ghost use Rattle.reports.specs.Verdicts.{tightest_flow, verdict_of, TightestFlow};
 
-use crate::slack::{flow_of, slack_of};
-use analysis::figures::Figures;
-use analysis::row::Row;
+use crate::slack::slack_of;
 use calls::refusal::Refusal;
 use calls::report::Verdict;
 use rows::flow_row::FlowRow;
 use rows::rows::Rows;
-use tightest::offers::Tightest;
-
-fn figures_of(flow: &Row) -> Figures
-    ensures { result ≡ figures_of flow.now }
-{
-    Figures {
-        hops: flow.path.len(),
-        parts: flow.parts,
-        alone: flow.alone,
-        bound: flow.bound,
-        rounds: flow.rounds,
-    }
-}
+use tightest::kept::tighter;
 
 // The bounded flow whose bound comes closest to its deadline, if there is one.
 fn tightest_flow(flows: &[FlowRow]) -> Option<usize>
     ensures { result ≡ tightest_flow flows.now }
 {
-    let mut offers = Tightest::new();
-    for (k, row) in flows.iter().enumerate() {
-        offers.offer_if(slack_of(k + 1, &row.flow));
-    }
-    flow_of(offers.found())
+    flows
+        .iter()
+        .enumerate()
+        .filter_map(|(k, row)| slack_of(k + 1, &row.flow))
+        .fold(None, tighter)
+        .map(|slack| slack.flow)
 }
 
 // The figures of a flow, by its number, and the tightest flow of all. Refused where there is no such flow.
@@ -41,11 +27,12 @@ pub fn verdict(rows: &Rows, flow: usize) -> Result<Verdict, Refusal>
     ensures tightest { IfOk result (λ v. TightestFlow rows.now v.tightest) }
 {
     let flows = rows.as_slice();
-    if (flow < 1) | (flow > flows.len()) {
-        return Err(Refusal::NoFlow);
-    }
+    let row = flow
+        .checked_sub(1)
+        .and_then(|place| flows.get(place))
+        .ok_or(Refusal::NoFlow)?;
     Ok(Verdict {
-        figures: figures_of(&flows[flow - 1].flow),
+        figures: row.flow.figures(),
         tightest: tightest_flow(flows),
     })
 }

@@ -1,13 +1,38 @@
 -- What is kept of items that are offered in turn is the tightest of them. Assumes nothing.
-use Rattle.std.proofs.Common.{◌≡◌, ℕ, zero, suc, ◌<◌, Bool, true, false, List, [], ◌∷◌, length, get_or, Some, None, Option, refl, ap, inl, inr, arith}
-use Rattle.std.proofs.lemmas.Bool.{cases_Bool, both_ways, cond_both}
-use Rattle.tightest.specs.Order.{tightest_from, tightest_of, Leads, Tells}
+use Rattle.std.proofs.Common.{◌≡◌, ℕ, zero, suc, ◌<◌, Bool, true, false, List, [], ◌∷◌, length, get_or, Some, None, Option, sym, refl, ap, ◌∙◌, arith}
+use Rattle.std.proofs.lemmas.Bool.{cond_both}
+use Rattle.std.proofs.lemmas.Cmp.{tied_itself, upto}
+use Rattle.std.specs.Cmp.{IsTotalOrder}
+use Rattle.std.specs.Ordering.{is_lt, is_gt, ordering_reverse}
+use Rattle.std.specs.declared.cmp.Ordering.{Ordering}
+use Rattle.std.specs.declared.cmp.Ordering.TheVariants.{Less, Equal, Greater}
+use Rattle.tightest.specs.Order.{comes_before, tightest_from, tightest_of, Leads, Tells}
 
 -- the laws of an order in which different items may be level
 pub record Orders {T : Type 0} (before : T → T → Bool) : Type 0 where
   pub never : (x : T) → before x x ≡ false
   pub follows : (x y z : T) → before x y ≡ true → before y z ≡ true → before x z ≡ true
   pub splits : (x y z : T) → before x y ≡ false → before y z ≡ false → before x z ≡ false
+
+is_less : (o : Ordering) → is_lt o ≡ true → o ≡ Less
+is_less Less t = refl
+is_less Equal t = absurd cc
+is_less Greater t = absurd cc
+
+is_back : (o : Ordering) → is_lt (ordering_reverse o) ≡ is_gt o
+is_back Less = refl
+is_back Equal = refl
+is_back Greater = refl
+
+-- every total order has them
+pub orders : {T : Type 0} {cmp : T → T → Ordering} → IsTotalOrder cmp → Orders (comes_before cmp)
+orders {T} {cmp} o =
+    let back : (x y : T) → comes_before cmp x y ≡ is_gt (cmp y x) = λ x y. ap is_lt (o.antisymm x y) ∙ is_back (cmp y x) in
+    record {
+      never = λ x. ap is_lt (tied_itself o x);
+      follows = λ x y z s t. ap is_lt (o.trans x y z (is_less (cmp x y) s) (is_less (cmp y z) t));
+      splits = λ x y z s t. back x z ∙ upto o z y x (sym (back y z) ∙ t) (sym (back x y) ∙ s);
+    }
 
 nothing_below : {P : Type 0} (k : ℕ) → k < 0 → P
 nothing_below k l = absurd (omega arith)
@@ -19,13 +44,13 @@ one_more before a xs b ys f (Some y) h = f y h
 
 module _ {T : Type 0} (before : T → T → Bool) (o : Orders before) where
   lowers : (x y z : T) → before x y ≡ true → before x z ≡ false → before y z ≡ false
-  lowers x y z t f = elim (cases_Bool (before y z)) [ inl s ↦ absurd (both_ways (before x z) f (o.follows x y z t s)) | inr s ↦ s ]
+  lowers x y z t f = grind (arith, o.follows x y z)
 
   lifts : (x y z : T) → before x z ≡ true → before x y ≡ false → before y z ≡ true
-  lifts x y z t f = elim (cases_Bool (before y z)) [ inl s ↦ s | inr s ↦ absurd (both_ways (before x z) (o.splits x y z f s) t) ]
+  lifts x y z t f = grind (arith, o.splits x y z)
 
   passes : (x y z : T) → before x z ≡ true → before y z ≡ false → before x y ≡ true
-  passes x y z t f = elim (cases_Bool (before x y)) [ inl s ↦ s | inr s ↦ absurd (both_ways (before x z) (o.splits x y z s f) t) ]
+  passes x y z t f = grind (arith, o.splits x y z)
 
   -- b is all there is
   alone : (b : T) → Leads before (b ∷ []) b

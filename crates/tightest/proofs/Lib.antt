@@ -1,4 +1,3 @@
 pub mod Keeping
-pub mod Offering
 pub mod Picking
 pub mod InTurn

@@ -1,23 +1,24 @@
 -- The tightest of a list of items, by an order that says which comes before which. Assumes nothing.
+--   comes_before cmp x y: x comes strictly before y, by an order that compares two items
 --   tighter before best x: what is kept of the best so far and one item more
---   tighter_if before best r: the same, where there may be no item more
 --   tightest_from before best xs: what is kept of the best so far and the items, in their order
 --   tightest_of before xs: the tightest of the items
 --   Leads before xs x: x is the earliest of the items that none comes before
 --   Tells before xs r: r is that item, or none of no items
-use Rattle.std.specs.Prelude.{◌≡◌, ℕ, ◌<◌, Bool, true, false, cond, List, [], ◌∷◌, length, Some, None, Option, slice_index_or}
+use Rattle.std.specs.Prelude.{◌≡◌, ℕ, ◌<◌, Bool, true, false, cond, List, [], length, Some, None, Option, slice_index_or}
+use Rattle.std.specs.declared.cmp.Ordering.{Ordering}
+use Rattle.std.specs.Ordering.{is_lt}
+use Rattle.std.specs.List.{fold}
+
+abbrev pub comes_before : {T : Type 0} → (T → T → Ordering) → T → T → Bool
+comes_before cmp x y = is_lt (cmp x y)
 
 abbrev pub tighter : {T : Type 0} → (T → T → Bool) → Option T → T → Option T
 tighter before None x = Some x
 tighter before (Some best) x = cond (before x best) (Some x) (Some best)
 
-abbrev pub tighter_if : {T : Type 0} → (T → T → Bool) → Option T → Option T → Option T
-tighter_if before best None = best
-tighter_if before best (Some x) = tighter before best x
-
 abbrev pub tightest_from : {T : Type 0} → (T → T → Bool) → Option T → List T → Option T
-tightest_from before best [] = best
-tightest_from before best (x ∷ xs) = tightest_from before (tighter before best x) xs
+tightest_from before best xs = fold (tighter before) best xs
 
 abbrev pub tightest_of : {T : Type 0} → (T → T → Bool) → List T → Option T
 tightest_of before xs = tightest_from before None xs

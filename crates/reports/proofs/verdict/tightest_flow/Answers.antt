@@ -1,18 +1,20 @@
-use Rattle.std.proofs.Common.{ap, ◌∙◌}
-use Rattle.tightest.specs.Order.{tighter_if}
-use Rattle.tightest.proofs.Picking.{count_more, count_all}
-use Rattle.reports.specs.Verdicts.{slack_at, nearer, flow_of, tightest_flow}
+use Rattle.std.proofs.Common.{rules, tests, ◌≡◌, ℕ, None, ◌∙◌, ap}
+use Rattle.std.proofs.lemmas.Iterator.{YieldsList-from_slice}
+use Rattle.std.proofs.lemmas.Iterator.Consumers.{fold_from_yields_List, YieldsList-at, YieldsList-from_filter_map, YieldsList-from_enumerate}
+use Rattle.rows.specs.declared.flow_row.FlowRow.{FlowRow}
+use Rattle.tightest.specs.Order.{comes_before, tighter, tightest_of}
+use Rattle.tightest.specs.Counted.{counted}
+use Rattle.reports.specs.Verdicts.{tightest_flow, slack_at, flow_of}
+use Rattle.reports.proofs.Orders.{slack_cmp, nearer_is}
 use Rattle.reports.proofs.verdict.tightest_flow.Goals as goal
-
-pub loop-k-preserved : goal.loop-k-preserved
-loop-k-preserved c =
-    let rows = c.args.flows.now in
-    let best = c.loop-k.offers.best in
-    let next = c.offer_if.ensures ∙ ap (tighter_if nearer best) c.slack_of.ensures in
-    count_more nearer slack_at rows best c.offer_if.new.self.best c.loop-k.k c.index-flows-k.result c.loop-k-test.true c.index-flows-k.is next c.loop-k.invariant
 
 pub returns : goal.returns
 unfolding tightest_flow
 returns c =
-    c.flow_of.ensures
-    ∙ ap flow_of (c.found.ensures ∙ count_all nearer slack_at c.args.flows.now c.loop-k.offers.best c.loop-k.k c.loop-k-test.false c.loop-k.invariant)
+    let rows = c.args.flows.now in
+    let found : c.fold.result ≡ tightest_of (comes_before slack_cmp) (counted slack_at 0 rows) =
+    fold_from_yields_List _ (tighter (comes_before slack_cmp)) None c.fold.result c.fold.ensures.ran
+    (YieldsList-from_filter_map _ (λ (item : ℕ × FlowRow). slack_at item.0 item.1) (YieldsList-at c.filter_map.ensures.source (YieldsList-from_enumerate (YieldsList-from_slice rows cc) cc)) c.filter_map.ensures.closure (λ x r q k. search (rules, tests)))
+    (λ a x b q k. search rules) in
+    let mapped : c.map.result ≡ flow_of c.fold.result = search rules in
+    mapped ∙ ap flow_of (found ∙ ap (λ before. tightest_of before (counted slack_at 0 rows)) nearer_is)
