@@ -27,7 +27,6 @@ use Rattle.history.specs.Steps.{arbitrated}
 use Rattle.history.specs.Counted.{History, accepted, levels_in}
 use Rattle.history.specs.Since.{Since, Holds, Follows}
 use Rattle.history.proofs.Carried.{no_release}
-use Rattle.history.proofs.Numbers.{less_from}
 
 -- The marks of a flow over the flows before it, and the flows that delay it.
 blocked_some :
@@ -134,6 +133,6 @@ module _ (most : ℕ) (b : Table) (h : History) (s : State) (u : Since most b h 
         levels = level_list p;
         short = u.short;
         waiting = λ _ i. refl;
-        room = λ _. less_from s.slot 4294967295 u.short (eqb-false s.slot 4294967295 below);
+        room = λ _. omega (arith, u.short, eqb-false s.slot 4294967295 below);
         free = no_release b h (Arbitrated (Ok p)) (omega arith) u.free;
       }

@@ -1,7 +1,6 @@
 -- Calls that change no row: refused ones, the end of a run, reports and verdicts. Assumes nothing.
-use Rattle.std.proofs.Common.{◌≡◌, ℕ, ◌+◌, ◌<◌, Bool, false, cond, not, List, [], ◌∷◌, get_or, None, Ok, Err, Result, sym, refl, ap, ◌∙◌, subst, ap₂, arith}
+use Rattle.std.proofs.Common.{◌≡◌, ℕ, ◌+◌, ◌<◌, Bool, cond, not, List, [], ◌∷◌, get_or, None, Ok, Err, Result, sym, refl, ap, ◌∙◌, subst, ap₂, arith}
 use mathlib.Core.Path.{fun_ext}
-use Rattle.std.proofs.lemmas.Bool.{both_ways}
 use Rattle.calls.specs.declared.event.Event.{Event}
 use Rattle.calls.specs.declared.event.Event.TheVariants.{Released, Arbitrated, Injected, Abandoned, Reported, Told}
 use Rattle.calls.specs.declared.record.Record.{Record}
@@ -127,7 +126,7 @@ abandon_since most b h s p u =
       each = λ i f. follows_alike b h (Abandoned p (Ok tt) ∷ h) same i s (u.each i f);
       levels = u.levels;
       short = u.short;
-      waiting = λ e. absurd (both_ways false refl e);
-      room = λ e. absurd (both_ways false refl e);
+      waiting = λ e. cc;
+      room = λ e. cc;
       free = no_release b h (Abandoned p (Ok tt)) (omega arith) u.free;
     }

@@ -1,25 +1,24 @@
 -- Which checks of a call applied, from its answer. Assumes nothing.
-use Rattle.std.proofs.Common.{◌≡◌, ℕ, Bool, true, false, List, [], ◌∷◌, Some, None, Ok, Err, Option, sym, refl, ap, ◌∙◌, ⊎_elim, arith}
+use Rattle.std.proofs.Common.{◌≡◌, Bool, true, false, List, [], ◌∷◌, Some, None, Ok, Err, Option, sym, refl, ap, ◌∙◌, ⊎_elim}
 use Rattle.std.proofs.lemmas.Bool.{cases_Bool}
 use Rattle.calls.specs.declared.refusal.Refusal.{Refusal}
 use Rattle.calls.specs.declared.refusal.Refusal.TheVariants.{NoFlow, Ended, Owed, Late, Ahead, Soon, Busy, ShortLedger, FullLedger}
-use Rattle.calls.specs.Refusals.{number_of}
 use Rattle.calls.specs.Events.{first_refusal}
 use Rattle.history.specs.Steps.{unless}
 
 -- an accepted call: no check applied
 pub accepted_none : {X : Type 0} (o : Option Refusal) (x y : X) → Ok x ≡ unless o y → o ≡ None
 accepted_none None x y e = refl
-accepted_none (Some r) x y e = let z : ◌≡◌ {A = ℕ} 0 1 = cc in absurd (omega arith)
+accepted_none (Some r) x y e = cc
 
 -- a refused call: the first check that applied
 pub refused_some : {X : Type 0} (o : Option Refusal) (r : Refusal) (y : X) → Err r ≡ unless o y → o ≡ Some r
-refused_some None r y e = let z : ◌≡◌ {A = ℕ} 0 1 = cc in absurd (omega arith)
+refused_some None r y e = cc
 refused_some (Some q) r y e = cc
 
 -- where none of the checks applied, the first did not, and none of the rest
 pub passed : (t : Bool) (r : Refusal) (rest : List (Bool × Refusal)) → first_refusal ((t, r) ∷ rest) ≡ None → (t ≡ false) × (first_refusal rest ≡ None)
-passed true r rest e = let z : ◌≡◌ {A = ℕ} 0 1 = cc in absurd (omega arith)
+passed true r rest e = cc
 passed false r rest e = (refl, e)
 
 -- where another check was the first, this one did not apply
@@ -81,15 +80,15 @@ module _ (ended owed unknown late ahead soon busy short full : Bool) where
 
   pub release_busy : first_refusal (nine ended owed unknown late ahead soon busy short full) ≡ Some Busy → BeforeBusy ended owed unknown late ahead soon × (busy ≡ true)
   release_busy e =
-      let a = skipped ended Ended Busy from_owed (λ x. omega (arith, ap number_of x)) e in
-      let b = skipped owed Owed Busy from_flow (λ x. omega (arith, ap number_of x)) a.1 in
-      let c = skipped unknown NoFlow Busy from_late (λ x. omega (arith, ap number_of x)) b.1 in
-      let d = skipped late Late Busy from_ahead (λ x. omega (arith, ap number_of x)) c.1 in
-      let f = skipped ahead Ahead Busy from_soon (λ x. omega (arith, ap number_of x)) d.1 in
-      let g = skipped soon Soon Busy from_busy (λ x. omega (arith, ap number_of x)) f.1 in
-      let last = λ (no : busy ≡ false).
+      let a = skipped ended Ended Busy from_owed (λ x. cc) e in
+      let b = skipped owed Owed Busy from_flow (λ x. cc) a.1 in
+      let c = skipped unknown NoFlow Busy from_late (λ x. cc) b.1 in
+      let d = skipped late Late Busy from_ahead (λ x. cc) c.1 in
+      let f = skipped ahead Ahead Busy from_soon (λ x. cc) d.1 in
+      let g = skipped soon Soon Busy from_busy (λ x. cc) f.1 in
+      let last : busy ≡ false → busy ≡ true = λ no.
       let h = ap (λ t. first_refusal ((t, Busy) ∷ from_short)) (sym no) ∙ g.1 in
-      let i = skipped short ShortLedger Busy from_full (λ x. omega (arith, ap number_of x)) h in
-      let j = (skipped full FullLedger Busy [] (λ x. omega (arith, ap number_of x)) i.1).1 in
-      let z : ◌≡◌ {A = ℕ} 0 1 = cc in absurd (omega arith) in
+      let i = skipped short ShortLedger Busy from_full (λ x. cc) h in
+      let j = (skipped full FullLedger Busy [] (λ x. cc) i.1).1 in
+      cc in
       (record { going = a.0; idle = b.0; flow = c.0; in_time = d.0; not_ahead = f.0; apart = g.0 }, ⊎_elim (λ (yes : busy ≡ true). yes) last (cases_Bool busy))

@@ -1,4 +1,3 @@
-pub mod Numbers
 pub mod Links
 pub mod Promised
 pub mod Carried

@@ -1,12 +1,12 @@
 -- Two routes share a link exactly when one link number stands in both. Assumes nothing.
-use Rattle.std.proofs.Common.{◌≡◌, ℕ, true, false, eqb, List, [], ◌∷◌, sym, refl, ap, ◌∙◌, ⊎_elim}
-use Rattle.std.proofs.lemmas.Bool.{or_cases, or_left, or_right, both_ways, eqb-true, eq-eqb}
+use Rattle.std.proofs.Common.{◌≡◌, ℕ, true, eqb, List, [], ◌∷◌, sym, refl, ap, ◌∙◌, ⊎_elim}
+use Rattle.std.proofs.lemmas.Bool.{or_cases, or_left, or_right, eqb-true, eq-eqb}
 use Rattle.fabric.specs.Paths.{has, shares}
 use Rattle.history.specs.Promise.{SharesLink}
 
 pub link_from : (p q : List ℕ) → shares p q ≡ true → SharesLink p q
 unfolding has shares
-link_from [] q e = absurd (both_ways false refl e)
+link_from [] q e = cc
 link_from (x ∷ p) q e =
     ⊎_elim
     (λ here. (x, or_left (eqb x x) (has x p) (eq-eqb x x refl), here))
@@ -15,7 +15,7 @@ link_from (x ∷ p) q e =
 
 pub link_shares : (p q : List ℕ) → SharesLink p q → shares p q ≡ true
 unfolding has shares
-link_shares [] q l = absurd (both_ways false refl l.1)
+link_shares [] q l = cc
 link_shares (x ∷ p) q l =
     ⊎_elim
     (λ here. or_left (has x q) (shares p q) (ap (λ k. has k q) (sym (eqb-true l.0 x here)) ∙ l.2))

@@ -17,7 +17,7 @@ use Rattle.rows.specs.Blank.{no_row}
 use Rattle.rows.specs.Releases.{begun, opening}
 use Rattle.rows.specs.Times.{late, ahead, soon}
 use Rattle.rows.specs.Grants as rows
-use Rattle.timing.proofs.Options.{cases_option, none_some}
+use Rattle.timing.proofs.Options.{cases_option}
 use Rattle.timing.specs.Model.{Table, Flow}
 use Rattle.timing.specs.Figures.{bound_of}
 use Rattle.history.specs.State.{State, known, row_of}
@@ -25,7 +25,6 @@ use Rattle.history.specs.Steps.{released}
 use Rattle.history.specs.Counted.{History, accepted, owed_after, recorded}
 use Rattle.history.specs.Since.{Since, Lists, Holds, Follows}
 use Rattle.history.proofs.Carried.{no_report}
-use Rattle.history.proofs.Numbers.{less_from}
 use Rattle.history.proofs.Checks.{BeforeBusy}
 
 -- a flow that never released has nothing to come
@@ -34,14 +33,14 @@ unfolding last_of left_of
 none_left b [] i e = refl
 none_left b (release j t ∷ l) i e =
     ⊎_elim
-    (λ (yes : eqb i j ≡ true). absurd (none_some t (sym e ∙ ap (λ c. cond c (Some t) (last_of l i)) yes)))
+    (λ (yes : eqb i j ≡ true). cc (ap (λ c. cond c (Some t) (last_of l i)) yes))
     (λ (no : eqb i j ≡ false). ap (λ c. cond c (b.w i) (left_of b l i)) no ∙ none_left b l i (sym (ap (λ c. cond c (Some t) (last_of l i)) no) ∙ e))
     (cases_Bool (eqb i j))
 none_left b (inject ∷ l) i e = omega (arith, none_left b l i e)
 
 -- the separation since the last release
 apart_from : (last : Option ℕ) (separation t s : ℕ) → soon last separation t ≡ false → last ≡ Some s → s + separation ≤ t
-apart_from None separation t s e is = absurd (none_some s is)
+apart_from None separation t s e is = cc
 apart_from (Some r) separation t s e is = let same : r ≡ s = cc in omega (arith, ltb-false t (r + separation) e, same)
 
 ne_place : (i j : ℕ) → 1 ≤ i → 1 ≤ j → (j ≡ i → ⊥) → j - 1 ≡ i - 1 → ⊥
@@ -191,7 +190,7 @@ module _ (most : ℕ) (b : Table) (h : History) (s : State) (i t : ℕ) (u : Sin
           short = u.short;
           waiting = λ e. absurd (not_owed e);
           room = λ e. absurd (not_owed e);
-          free = (λ j v same. let z : ◌≡◌ {A = ℕ} 0 1 = cc in absurd (omega arith), u.free);
+          free = (λ j v same. cc, u.free);
         }
 
     -- the new record
@@ -208,7 +207,7 @@ module _ (most : ℕ) (b : Table) (h : History) (s : State) (i t : ℕ) (u : Sin
         Lists b (Released i t (Ok tt) ∷ h) (set k s.count (opening i t s.slot))
     release_lists k enough space l =
         let count = u.count in
-        let room : made_of calls < length k = less_from (made_of calls) (length k) (omega (arith, ltb-false (length k) s.count enough)) (λ e. eqb-false (length k) s.count space (omega (arith, e, count))) in
+        let room : made_of calls < length k = omega (arith, ltb-false (length k) s.count enough, eqb-false (length k) s.count space, count) in
         let new = opening i t s.slot in
         record {
           long = omega (arith, made_release calls i t, length-set k s.count new);

@@ -43,7 +43,7 @@ pub report_is : (rows : List FlowRow) (count : ℕ) (k : List Record) (r : Repor
 report_is rows count k r e = go (ltb (length k) count) refl
   where
     go : (c : Bool) → ltb (length k) count ≡ c → (count ≤ length k) × (r ≡ told rows (take count k))
-    go true is = let z : ◌≡◌ {A = Result Report Refusal} (Ok r) (Err ShortLedger) = e ∙ ap (λ c. cond c (Err ShortLedger) (Ok (told rows (take count k)))) is in let w : ◌≡◌ {A = ℕ} 0 1 = cc in absurd (omega arith)
+    go true is = let z : ◌≡◌ {A = Result Report Refusal} (Ok r) (Err ShortLedger) = e ∙ ap (λ c. cond c (Err ShortLedger) (Ok (told rows (take count k)))) is in cc
     go false is = let z : ◌≡◌ {A = Result Report Refusal} (Ok r) (Ok (told rows (take count k))) = e ∙ ap (λ c. cond c (Err ShortLedger) (Ok (told rows (take count k)))) is in (ltb-false (length k) count is, cc)
 
 pub report_counts :

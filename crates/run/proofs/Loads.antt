@@ -1,5 +1,5 @@
 -- The checks of a load that need no memory are the first of them. Assumes nothing.
-use Rattle.std.proofs.Common.{◌≡◌, ℕ, Bool, true, false, List, ◌++◌, length, IfOk, Some, None, Option, Ok, Err, Result, refl, ap, ◌∙◌, arith}
+use Rattle.std.proofs.Common.{◌≡◌, ℕ, Bool, true, false, List, ◌++◌, length, IfOk, Some, None, Option, Ok, Err, Result, refl, ap, ◌∙◌}
 use Rattle.analysis.specs.Answers.{Exactly}
 use Rattle.analysis.specs.Loading.{load_checks, open_checks, flow_checks, misfit_checks, timing_of}
 use Rattle.calls.specs.declared.load_refusal.LoadRefusal.{LoadRefusal}
@@ -31,9 +31,9 @@ none_first s bs nodes most route idle e =
 
 -- the checks of the table itself
 passed_on : (owed : Bool) (fault : Option LoadFault) → refusal_of owed fault ≡ None → fault ≡ None
-passed_on true fault e = let z : ◌≡◌ {A = ℕ} 0 1 = cc in absurd (omega arith)
+passed_on true fault e = cc
 passed_on false None e = refl
-passed_on false (Some f) e = let z : ◌≡◌ {A = ℕ} 0 1 = cc in absurd (omega arith)
+passed_on false (Some f) e = cc
 
 -- where the load was accepted, the promise begins
 pub begins_from :

@@ -3,11 +3,9 @@
 --   small_rows: its flows come from nodes below 256, and their last parts are on their way for less than 2 ^ 60 cycles
 use Rattle.std.proofs.Common.{◌≡◌, ℕ, zero, suc, ◌+◌, ◌-◌, ◌^◌, ◌<◌, ◌≤◌, Bool, true, false, ◌||◌, eqb, ltb, leb, List, [], ◌∷◌, ◌++◌, map, length, get_or, is_some, Some, None, Option, unwrap_or, sym, refl, ap, subst, mul-le-mul, arith}
 use Rattle.std.proofs.lemmas.List.{get_or-map, length-map}
-use Rattle.std.proofs.lemmas.Bool.{both_ways, or_parts, leb-false, ltb-false}
-use Rattle.fabric.specs.declared.path.Path.{Path}
+use Rattle.std.proofs.lemmas.Bool.{or_parts, leb-false, ltb-false}
 use Rattle.fabric.specs.Paths.{links_in}
 use Rattle.fabric.specs.Routes.{Route}
-use Rattle.fabric.proofs.Kept.{kept_length}
 use Rattle.table.specs.declared.fault.LoadFault.{LoadFault}
 use Rattle.table.specs.declared.fault.LoadFault.TheVariants.{Record, Separation}
 use Rattle.table.specs.declared.header.Header.{Header}
@@ -35,7 +33,7 @@ use Rattle.run.proofs.Loads.{opened_first}
 -- the profile of a header that knows one
 there : (o : Option Profile) → is_some o ≡ true → Some (unwrap_or o no_profile) ≡ o
 there (Some p) e = refl
-there None e = absurd (both_ways false refl e)
+there None e = cc
 
 -- a built-in profile is quick
 record Quick (p : Profile) : Type 0 where
@@ -46,16 +44,16 @@ quick_at : (q p : Profile) → ◌≡◌ {A = Option Profile} (Some p) (Some q) 
 quick_at q p e a b = let same : q ≡ p = cc in subst Quick same (record { routing = a; transfer = b })
 
 quick : (n : ℕ) (p : Profile) → Some p ≡ profile_at n → Quick p
-quick zero p e = let z : ◌≡◌ {A = ℕ} 0 1 = cc in absurd (omega arith)
+quick zero p e = cc
 quick (suc zero) p e = quick_at (record { interval = 1; routing = 3; transfer = 1; pause = 0; flit = 4 }) p e (omega arith) (omega arith)
 quick (suc (suc zero)) p e = quick_at (record { interval = 1; routing = 3; transfer = 1; pause = 6; flit = 4 }) p e (omega arith) (omega arith)
 quick (suc (suc (suc zero))) p e = quick_at (record { interval = 4; routing = 3; transfer = 2; pause = 8; flit = 8 }) p e (omega arith) (omega arith)
 quick (suc (suc (suc (suc zero)))) p e = quick_at (record { interval = 2; routing = 1; transfer = 1; pause = 0; flit = 16 }) p e (omega arith) (omega arith)
-quick (suc (suc (suc (suc (suc n))))) p e = let z : ◌≡◌ {A = ℕ} 0 1 = cc in absurd (omega arith)
+quick (suc (suc (suc (suc (suc n))))) p e = cc
 
 -- a check that passes
 clear_head : (t : Bool) (f : LoadFault) (rest : List (Bool × LoadFault)) → first_fault ((t, f) ∷ rest) ≡ None → t ≡ false
-clear_head true f rest e = let z : ◌≡◌ {A = ℕ} 0 1 = cc in absurd (omega arith)
+clear_head true f rest e = cc
 clear_head false f rest e = refl
 
 record Sized (nodes : ℕ) (r : FlowRecord) : Type 0 where
@@ -80,9 +78,6 @@ tail_short p hops flits swift few small =
     let routed : hops - 1 ≤ 64 = omega arith in
     let more : flits + 1 ≤ 65536 = omega arith in
     omega (arith, mul-le-mul routed swift.routing, mul-le-mul few swift.transfer, mul-le-mul more swift.transfer)
-
-few_links : (path : Path) → length (links_in path) ≤ 64
-few_links path = omega (arith, kept_length path, path.few)
 
 module _ (bs : List ℕ) (nodes most : ℕ) (route : ℕ → ℕ → ℕ → Route) (fine : first_fault (load_checks bs nodes route most) ≡ None) where
   abbrev h : Header
@@ -128,7 +123,7 @@ module _ (bs : List ℕ) (nodes most : ℕ) (route : ℕ → ℕ → ℕ → Rou
       let links : length (links_in row.path) ≡ length (path_of slot p rs route i) = ap length fit.links in
       let flits = last_flits p (flits_of slot p rs route i) (record_of rs i).payload in
       let last : flits ≤ (record_of rs i).payload = last_le p (flits_of slot p rs route i) (record_of rs i).payload (sound h.profile p known).flit in
-      let short = tail_short p (length (path_of slot p rs route i)) flits (quick h.profile p known) (omega (arith, few_links row.path)) (omega (arith, size.payload)) in
+      let short = tail_short p (length (path_of slot p rs route i)) flits (quick h.profile p known) (omega (arith, row.path.few)) (omega (arith, size.payload)) in
       record { near = omega (arith, size.source); brief = omega (arith, fit.stands.tail, tail_is i) }
 
   pub small_rows : (rows : List Row) → nodes ≤ 256 → RowsFit slot p rs route h.flows rows → Small (map idle rows)

@@ -4,24 +4,16 @@
 mod case;
 mod cases;
 
-use analysis::load::load;
-use analysis::loaded::Loaded;
 use analysis::row::Row;
 use anyhow::anyhow;
 use case::Case;
 use cases::cases;
-use mesh::mesh::Mesh;
+use files::load_file;
 use std::alloc::Global;
-use table::fault::LoadFault;
-
-fn load_mesh(heap: Global, file: &[u8]) -> Result<Loaded, LoadFault> {
-    let mesh = Mesh::from_file(file)?;
-    load(heap, file, &mesh, 128)
-}
 
 // Whether the library answers what is expected.
 fn agrees(heap: Global, case: &Case) -> bool {
-    match (load_mesh(heap, &case.file), case.expected) {
+    match (load_file(heap, &case.file), case.expected) {
         (Ok(loaded), Ok(expected)) => loaded.rows.iter().map(Row::figures).eq(expected),
         (Err(fault), Err(expected)) => fault == expected,
         _ => false,
