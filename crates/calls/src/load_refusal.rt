@@ -57,6 +57,7 @@ impl From<LoadFault> for LoadRefusal {
     }
 }
 
+// Two impls, since std tells want of memory by two errors; by a derive no clause would know which case comes.
 impl From<AllocError> for LoadRefusal {
     ghost from_gives = { λ _ r. r ≡ Fault NoMemory };
 

@@ -12,6 +12,7 @@ pub mod releasing;
 pub mod serving;
 pub mod telling;
 
+// Clauses see it through `state_of`: a view of its own would hide the medium, which `into_medium` promises to give back, and be no plainer.
 #[derive(Drop)]
 pub struct Run<M> {
     medium: M,

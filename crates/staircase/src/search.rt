@@ -42,6 +42,7 @@ pub fn least_solution<S: Staircase>(stairs: &S, most: u32) -> Climb
             rounds,
         };
     }
+    // A loop, since each value decides whether there is a next round, and the rounds are a part of the answer: a chain would be no plainer.
     loop {
         rounds += 1;
         let Some(y) = stairs.value_within(x, most) else {

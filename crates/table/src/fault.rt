@@ -97,6 +97,7 @@ impl LoadFault {
     }
 }
 
+// Two impls, since std tells want of memory by two errors; by a derive no clause would know which case comes.
 impl From<AllocError> for LoadFault {
     ghost from_gives = { λ _ r. r ≡ NoMemory };
 

@@ -28,7 +28,7 @@ pub struct RouteEntry {
     pub position: u16,
 }
 
-// What a section is a row of.
+// What a section is a row of. A file and a place in it go together, since a lent rest of the file would hide the place that the format speaks of.
 trait FileRecord {
     // what the bytes mean that begin at a place
     ghost meaning: { List ℕ → ℕ → Self };

@@ -27,7 +27,7 @@ impl Above {
     }
 }
 
-// It has the same marks, and never fails, since no memory is asked for.
+// It has the same marks, and never fails, since no memory is asked for; a derived clone would not say so.
 impl Clone for Above {
     ghost is_clone = { λ above copy. copy ≡ above };
 

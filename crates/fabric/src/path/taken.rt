@@ -16,6 +16,7 @@ impl Path {
     {
         let len = fabric.route_len(trip)?;
         let mut links = ArrayVec::new();
+        // a fabric tells a route link by link, by its number
         for k in 0..len {
             let Some(link) = fabric.route_link(trip, k) else {
                 unreachable()
@@ -48,7 +49,7 @@ impl Path {
     }
 }
 
-// It has the same links, and never fails, since no memory is asked for.
+// It has the same links, and never fails, since no memory is asked for; a struct with a ghost field has no derived clone.
 impl Clone for Path {
     ghost is_clone = { λ path copy. copy ≡ path };
 

@@ -19,7 +19,7 @@ impl Words {
         self.bits = [0; 512];
     }
 
-    // Sets the bit of a node and an interval.
+    // Sets the bit of a node and an interval. Their limits are asked where they come in: a type for them would be no plainer than two numbers.
     pub(crate) fn pull(&mut self, node: usize, k: usize)
         requires node { node < 256 }
         requires interval { k < 128 }
