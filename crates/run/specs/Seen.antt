@@ -3,6 +3,7 @@ use Rattle.std.specs.Prelude.{List}
 use Rattle.medium.specs.declared.level.Level.{Level}
 use Rattle.run.specs.declared.run.Run.{Run}
 use Rattle.history.specs.State.{State}
+use Rattle.run.specs.Phases.{is_owed, is_ended}
 
 -- the medium is seen by its levels
 abbrev pub state_of : {M : Type 0} → (M → List Level) → Run M → State
@@ -12,8 +13,8 @@ state_of levels r =
       slot = r.clock.slot;
       times = r.clock.times;
       count = r.count;
-      owed = r.owed;
-      ended = r.ended;
+      owed = is_owed r.phase;
+      ended = is_ended r.phase;
       rows = r.rows;
       levels = levels r.medium;
     }

@@ -1,6 +1,8 @@
 // A run over any medium.
 ghost use Rattle.std.specs.Prelude.{◌≡◌, ◌<◌, true};
+ghost use Rattle.run.specs.Phases.{is_owed};
 
+use crate::phase::Phase;
 use rows::clock::Clock;
 use rows::rows::Rows;
 
@@ -12,7 +14,7 @@ pub mod releasing;
 pub mod serving;
 pub mod telling;
 
-// Clauses see it through `state_of`: a view of its own would hide the medium, which `into_medium` promises to give back, and be no plainer.
+// Calls see it by a function of specs/, not by a model: taken apart, it gives back the very medium, which a view of its levels would hide.
 #[derive(Drop)]
 pub struct Run<M> {
     medium: M,
@@ -22,9 +24,7 @@ pub struct Run<M> {
     number: u32,
     // the count of the ledger's records
     count: usize,
-    // an injection is owed for the clock's slot
-    owed: bool,
-    ended: bool,
-    // where one is owed, a next slot can be counted
-    ghost spare: { owed ≡ true → clock.slot < 4294967295 },
+    phase: Phase,
+    // where an injection is owed, a next slot can be counted
+    ghost spare: { is_owed phase ≡ true → clock.slot < 4294967295 },
 }

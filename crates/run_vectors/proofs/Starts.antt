@@ -1,7 +1,7 @@
 -- The run that a load of three flows leaves. Assumes nothing.
 --   Spare: what a load does not fix of a flow's row, and a run never reads: places past the end of its route, marks of itself and of the flows below it
 --   start_of: the run, given these; roomy: a row can hold the flow
-use Rattle.std.proofs.Common.{◌≡◌, ℕ, zero, suc, ◌+◌, ◌-◌, ◌<◌, ◌≤◌, Bool, true, false, ◌&&◌, leb, List, [], ◌∷◌, ◌++◌, map, length, get_or, replicate, sym, refl, ap, ◌∙◌, subst, arith, lit<, lit≤}
+use Rattle.std.proofs.Common.{◌≡◌, ℕ, zero, suc, ◌+◌, ◌-◌, ◌<◌, ◌≤◌, Bool, true, false, ◌&&◌, leb, List, [], ◌∷◌, map, length, get_or, sym, refl, ap, ◌∙◌, arith, lit<}
 use Rattle.std.proofs.lemmas.Bool.{and_parts, leb-true}
 use Rattle.analysis.specs.declared.row.Row.{Row}
 use Rattle.analysis.specs.Loading.{profile_of}

@@ -30,6 +30,7 @@ fn agrees(heap: Global, case: &Case) -> bool {
     run_agrees(heap, case).unwrap_or(false)
 }
 
+// The worked tables have the same loop: a crate of its own for its few lines would be no plainer.
 fn main(rt: HostRuntime) -> anyhow::Result<()> {
     let mut failed = false;
     for (k, case) in cases().iter().enumerate() {

@@ -9,6 +9,7 @@ ghost use Rattle.history.specs.Begun.{run_refusal, early_refusal, BuildsRun, Beg
 ghost use Rattle.run.specs.Seen.{state_of};
 
 use super::Run;
+use crate::phase::Phase;
 use analysis::load::load as load_table;
 use calls::load_refusal::LoadRefusal;
 use fabric::fabric::Fabric;
@@ -30,7 +31,7 @@ impl<M: Medium> Run<M> {
         ensures memory { result ≡ Err (Fault NoMemory) → early_refusal (state_of M.levels self.old) file.now (F.nodes fabric.now) M.most ≡ None }
         ensures exact { OnOk result (Exactly (timing_of file.now (F.route fabric.now))) }
     {
-        if self.owed {
+        if self.phase == Phase::Owed {
             return Err(LoadRefusal::Owed);
         }
         let loaded = load_table(heap, file, fabric, self.medium.limit())?;
@@ -45,7 +46,7 @@ impl<M: Medium> Run<M> {
         self.clock = clock;
         self.number = number;
         self.count = 0;
-        self.ended = false;
+        self.phase = Phase::Open;
         Ok(())
     }
 

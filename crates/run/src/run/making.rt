@@ -4,6 +4,7 @@ ghost use Rattle.run.specs.Seen.{state_of};
 ghost use Rattle.history.specs.State.{empty_state};
 
 use super::Run;
+use crate::phase::Phase;
 use medium::medium::Medium;
 use parts::slot::Slot;
 use rows::clock::Clock;
@@ -32,8 +33,7 @@ impl<M: Medium> Run<M> {
             },
             number: 0,
             count: 0,
-            owed: false,
-            ended: true,
+            phase: Phase::Ended,
         }
     }
 
@@ -47,8 +47,7 @@ impl<M: Medium> Run<M> {
             clock: _,
             number: _,
             count: _,
-            owed: _,
-            ended: _,
+            phase: _,
         } = self;
         drop(rows);
         medium

@@ -8,6 +8,7 @@ ghost use Rattle.history.specs.Promise.{Upholds};
 ghost use Rattle.run.specs.Seen.{state_of};
 
 use super::Run;
+use crate::phase::Phase;
 use calls::record::Record;
 use calls::refusal::Refusal;
 use medium::medium::Medium;
@@ -27,11 +28,10 @@ impl<M: Medium> Run<M> {
     fn check_release(&self, flow: usize, cycle: u64, len: usize) -> Result<(), Refusal>
         ensures { result ≡ unless (first_refusal (release_checks (state_of M.levels self.now) len flow cycle)) tt }
     {
-        if self.ended {
-            return Err(Refusal::Ended);
-        }
-        if self.owed {
-            return Err(Refusal::Owed);
+        match self.phase {
+            Phase::Ended => return Err(Refusal::Ended),
+            Phase::Owed => return Err(Refusal::Owed),
+            Phase::Open => {}
         }
         let Some(row) = self.row(flow) else {
             return Err(Refusal::NoFlow);

@@ -9,6 +9,7 @@ ghost use Rattle.run.specs.Seen.{state_of};
 ghost use Rattle.run.specs.Slips.{named, bare, HandedBack};
 
 use super::Run;
+use crate::phase::Phase;
 use crate::slip::Slip;
 use calls::record::Record;
 use calls::refusal::Refusal;
@@ -31,17 +32,16 @@ impl<M: Medium> Run<M> {
     fn arbitrate_step(&mut self) -> Result<Slip, Refusal>
         ensures { Arbitrates M.most (state_of M.levels self.old) (named result) (state_of M.levels self.new) }
     {
-        if self.ended {
-            return Err(Refusal::Ended);
-        }
-        if self.owed {
-            return Err(Refusal::Owed);
+        match self.phase {
+            Phase::Ended => return Err(Refusal::Ended),
+            Phase::Owed => return Err(Refusal::Owed),
+            Phase::Open => {}
         }
         if self.clock.slot == u32::MAX {
             return Err(Refusal::LastSlot);
         }
         decide(&mut self.medium, &mut self.rows);
-        self.owed = true;
+        self.phase = Phase::Owed;
         Ok(Slip {
             name: self.slip_name(),
         })
@@ -51,7 +51,7 @@ impl<M: Medium> Run<M> {
     fn awaits(&self, slip: &Slip) -> bool
         ensures { result ≡ names (state_of M.levels self.now) slip.now.name }
     {
-        self.owed && slip.name == self.slip_name()
+        self.phase == Phase::Owed && slip.name == self.slip_name()
     }
 
     fn inject_step(&mut self, slip: Slip, ledger: &mut [Record]) -> Result<usize, (Refusal, Slip)>
@@ -67,7 +67,7 @@ impl<M: Medium> Run<M> {
         let Slip { name: _ } = slip;
         let grants = serve_all(&mut self.rows, &self.clock, ledger);
         self.clock.slot += 1;
-        self.owed = false;
+        self.phase = Phase::Open;
         Ok(grants)
     }
 
@@ -79,8 +79,7 @@ impl<M: Medium> Run<M> {
             return Err((Refusal::WrongSlip, slip));
         }
         let Slip { name: _ } = slip;
-        self.owed = false;
-        self.ended = true;
+        self.phase = Phase::Ended;
         Ok(())
     }
 }

@@ -1,4 +1,4 @@
-use Rattle.std.proofs.Common.{ℕ, ◌≤◌, List, map, vec_items, sym, ap, ◌∙◌, subst, arith}
+use Rattle.std.proofs.Common.{◌≡◌, ℕ, ◌≤◌, false, List, map, vec_items, sym, ap, ◌∙◌, subst, arith, rules}
 use Rattle.analysis.specs.declared.row.Row.{Row}
 use Rattle.analysis.specs.Loading.{load_checks}
 use Rattle.parts.specs.declared.slot.Slot.{Slot}
@@ -40,4 +40,6 @@ returns-in_err-rows-clause-memory g c = λ _.
     let N = g.F.Fabric.nodes c.args.fabric.now in
     let R = g.F.Fabric.route c.args.fabric.now in
     let fine = ap (λ (n : ℕ). first_fault (load_checks bs N R n)) (sym c.limit.ensures) ∙ c.in_ok-loaded.ensures.answer.0 in
-    none_first (state_of g.M.Medium.levels c.args.self.now) bs N g.M.Medium.most R c.if-self.false fine
+    let s = state_of g.M.Medium.levels c.args.self.now in
+    let idle : s.owed ≡ false = search rules in
+    none_first s bs N g.M.Medium.most R idle fine
