@@ -11,7 +11,7 @@ use Rattle.listed.specs.ListedRoutes.{ends_at, among, first_cause, told, hop_che
 
 pub told_none : (hop : ℕ) (cause : Option Cause) (later : Option RouteFault) → told hop cause later ≡ None → (cause ≡ None) × (later ≡ None)
 told_none hop None later e = (refl, e)
-told_none hop (Some cause) later e = let z : ◌≡◌ {A = ℕ} 0 1 = cc in absurd (omega arith)
+told_none hop (Some cause) later e = cc
 
 among_append : (us vs : List ℕ) (n : ℕ) → among (us ++ vs) n ≡ false → (among us n ≡ false) × (among vs n ≡ false)
 among_append us vs n e = or_parts (among us n) (among vs n) (sym (list_any-append (λ u. u == n) us vs) ∙ e)

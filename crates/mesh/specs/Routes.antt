@@ -1,6 +1,6 @@
 -- A mesh's route is its path, where both nodes are there and the path is not too long.
 use Rattle.std.specs.Prelude.{◌≡◌, ℕ, ◌*◌, ◌<◌, ◌≤◌, Bool, true, false, cond, ◌&&◌, ◌⊎◌, List, length, Ok, nat_le, refl}
-use Rattle.std.proofs.Common.{subst, ⊎_elim, arith}
+use Rattle.std.proofs.Common.{subst, ⊎_elim}
 use Rattle.std.proofs.lemmas.Bool.{cond-false, and_parts, and_left, and_right, le-ltb, ltb-true, leb-true}
 use Rattle.fabric.specs.Routes.{Lawful, unknown_node}
 use Rattle.mesh.specs.Grid.{has}
@@ -31,8 +31,8 @@ passed w h s d p true true known short is =
       few = leb-true _ 64 short;
       path = cc;
     }
-passed w h s d p true false known short is = let z : ◌≡◌ {A = ℕ} 0 1 = cc in absurd (omega arith)
-passed w h s d p false short known _ is = let z : ◌≡◌ {A = ℕ} 0 1 = cc in absurd (omega arith)
+passed w h s d p true false known short is = cc
+passed w h s d p false short known _ is = cc
 
 pub route_passed : (w h s d : ℕ) (p : List ℕ) → mesh_route w h s d ≡ Ok p → Passed w h s d p
 route_passed w h s d p is = passed w h s d p _ _ refl refl is
