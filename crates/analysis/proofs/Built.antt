@@ -1,5 +1,5 @@
 -- Answers that are a value or the first fault. Assumes nothing.
-use Rattle.std.proofs.Common.{◌≡◌, IsErrAnd, Some, Err, Option, Result, MatchResult, sym, refl, ap, ◌∙◌, subst}
+use Rattle.std.proofs.Common.{◌≡◌, IsErrAnd, Some, Err, Option, Result, MatchResult, sym, ap, ◌∙◌, subst}
 use Rattle.std.proofs.lemmas.Result.{err_from_is_err_and}
 use Rattle.table.specs.declared.fault.LoadFault.{LoadFault}
 use Rattle.table.specs.declared.fault.LoadFault.TheVariants.{NoMemory}
@@ -10,10 +10,6 @@ pub built_fault :
     {X : Type 0} (o : Option LoadFault) (P : X → Type 0) (r : Result X LoadFault) (e : LoadFault) → IsErrAnd r (λ y. y ≡ e) → ((e ≡ NoMemory → ⊥) → o ≡ Some e) →
     Builds o P r
 built_fault o P r e by first = let q = err_from_is_err_and r by in subst (Builds o P) (sym (q.1 ∙ ap Err q.2)) first
-
--- no memory, whatever the checks say
-pub built_nothing : {X : Type 0} (o : Option LoadFault) (P : X → Type 0) (r : Result X LoadFault) → IsErrAnd r (λ y. y ≡ NoMemory) → Builds o P r
-built_nothing o P r by = built_fault o P r NoMemory by (λ other. absurd (other refl))
 
 -- the first fault, handed up
 pub first_up :

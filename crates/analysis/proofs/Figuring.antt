@@ -1,7 +1,7 @@
 -- The bound of a flow, from a search or from none. Assumes nothing.
-use Rattle.std.proofs.Common.{◌≡◌, ℕ, suc, ◌+◌, ◌-◌, ◌*◌, ◌<◌, ◌≤◌, Bool, true, false, ◌&&◌, leb, List, None, Option, sym, refl, ap, ◌∙◌, arith}
+use Rattle.std.proofs.Common.{◌≡◌, ℕ, suc, ◌+◌, ◌-◌, ◌*◌, ◌<◌, ◌≤◌, true, false, ◌&&◌, leb, List, None, Option, sym, ap, ◌∙◌, arith}
 use mathlib.Core.Path.{fun_ext}
-use Rattle.std.proofs.lemmas.Bool.{cond-true, cond-false, and_from, le-leb, lt-leb}
+use Rattle.std.proofs.lemmas.Bool.{cond-true, cond-false, and_from, le-leb, lt-leb, and_left, and_right}
 use Rattle.staircase.specs.declared.search.Climb.{Climb}
 use Rattle.staircase.specs.declared.term.Term.{Term}
 use Rattle.staircase.specs.Climbs.{climbed}
@@ -11,13 +11,6 @@ use Rattle.timing.specs.Staircase.{climb, rounds}
 use Rattle.timing.specs.Figures.{base, settled, searched, figure_of, bound_of, rounds_of}
 use Rattle.timing.proofs.Figures.{bound_is}
 use Rattle.analysis.specs.Standing.{Takes, Figured}
-
-and_no_left : (p q : Bool) → p ≡ false → (p && q) ≡ false
-and_no_left p q e = ap (λ (t : Bool). t && q) e
-
-and_no_right : (p q : Bool) → q ≡ false → (p && q) ≡ false
-and_no_right true q e = e
-and_no_right false q e = refl
 
 module _ (b : Table) (i : ℕ) where
   abbrev R : ℕ → Option ℕ
@@ -34,12 +27,12 @@ module _ (b : Table) (i : ℕ) where
   pub unbounded : false ≡ settled b R i → (None ≡ bound_of b i) × (0 ≡ rounds_of b i)
   unfolding searched
   unbounded none =
-      unsearched (and_no_left ((leb 1 i && leb i b.z) && settled b R i) (leb (base b i) (b.D i)) (and_no_right (leb 1 i && leb i b.z) (settled b R i) (sym none)))
+      unsearched (and_left ((leb 1 i && leb i b.z) && settled b R i) (leb (base b i) (b.D i)) (and_right (leb 1 i && leb i b.z) (settled b R i) (sym none)))
 
   -- where not even the start of the search is within the deadline
   pub overdue : b.D i < base b i → (None ≡ bound_of b i) × (0 ≡ rounds_of b i)
   unfolding searched
-  overdue late = unsearched (and_no_right ((leb 1 i && leb i b.z) && settled b R i) (leb (base b i) (b.D i)) (lt-leb (base b i) (b.D i) late))
+  overdue late = unsearched (and_right ((leb 1 i && leb i b.z) && settled b R i) (leb (base b i) (b.D i)) (lt-leb (base b i) (b.D i) late))
 
   -- the terms of the flows above make the demand
   pub demand_is : (ground : ℕ) (terms : List Term) → ground ≡ base b i → Takes b i terms → demanded ground terms ≡ demand b R i

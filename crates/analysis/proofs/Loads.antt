@@ -17,7 +17,7 @@ use Rattle.timing.specs.Model.{Table}
 use Rattle.analysis.specs.declared.row.Row.{Row}
 use Rattle.analysis.specs.Loading.{record_byte, route_checks, route_checks_of}
 use Rattle.analysis.specs.Rows.{taken, carried, Meets, Builds, RowFits, RowsFit}
-use Rattle.analysis.specs.Standing.{Ordered, InSlot, Stands, Standing, Told, Apart}
+use Rattle.analysis.specs.Standing.{Ordered, InSlot, Stands, Standing, Told}
 use Rattle.analysis.specs.Tables.{no_record, record_of, route_of, path_of, flits_of, table_of}
 
 taken_ok : (h : Header) (i : ℕ) (r : Route) (p : List ℕ) → Ok p ≡ taken h i r → r ≡ Ok p
@@ -128,15 +128,3 @@ module _ (slot : Slot) (p : Profile) (rs : List FlowRecord) (route : ℕ → ℕ
       let each = subst (λ (l : List Row). (k : ℕ) (d : Row) → k < length l → RowFits slot p rs route (k + 1) (get_or l k d)) (sym lent) fit.each in
       subst (λ (m : ℕ). Builds (first_fault (route_checks_of h slot p rs route (m + 1))) (RowFits slot p rs route (m + 1)) r) count
       (told rs (omega arith) (ap (λ (m : ℕ). get_or rs m no_record) place ∙ is) (record { count = refl; each = each }))
-
-  -- rows of records that are apart are apart
-  pub apart_from :
-      (n : ℕ) (rows xs : List Row) → xs ≡ rows → RowsFit slot p rs route n rows → n ≤ length rs →
-      ((k : ℕ) → k < length rs → 1 ≤ (get_or rs k no_record).separation) → Apart xs
-  apart_from n rows xs lent fit within apart k d less =
-      let there : k < length rows = omega (arith, ap length lent) in
-      let place : k + 1 - 1 ≡ k = omega arith in
-      let is : (get_or rows k d).record.separation ≡ (get_or rs k no_record).separation =
-      ap (λ (f : FlowRecord). f.separation) (fit.each k d there).flow ∙ ap (λ (m : ℕ). (get_or rs m no_record).separation) place in
-      let Lent-is = ap (λ (l : List Row). (get_or l k d).record.separation) lent in
-      omega (arith, Lent-is, is, apart k (omega (arith, fit.count)))

@@ -62,6 +62,7 @@ impl Rivals<'_> {
     }
 
     // The demand of this flow: its own need, and what the rivals that share a link take.
+    // A term may find no memory, which `?` in a loop says more plainly than a chain.
     fn demand(&self, heap: Global, ground: u32) -> Result<Demand, AllocError>
         ensures { IfOk result (λ d. (d.ground ≡ ground) × ((b : Table) → Met b self.now → Takes b (next self.now) d.terms.items)) }
     {

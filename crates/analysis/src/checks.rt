@@ -52,6 +52,7 @@ fn check_record(
 }
 
 // The records of all flows, in turn.
+// The first fault ends the loop, which `?` says more plainly than a chain.
 pub(crate) fn check_records(
     setting: &Setting,
     nodes: usize,

@@ -117,6 +117,7 @@ impl Turn<'_> {
 }
 
 // The rows of all flows, in turn.
+// Each is worked out from the list of those before it, so that a chain would be no plainer.
 pub(crate) fn load_rows<F: Fabric>(
     heap: Global,
     fabric: &F,

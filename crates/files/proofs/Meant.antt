@@ -1,6 +1,6 @@
 -- A fabric made from a file is the one that the file means, and its faults are the load's. Assumes nothing.
-use Rattle.std.proofs.Common.{◌≡◌, ℕ, ◌*◌, ◌≤◌, Bool, cond, not, ◌||◌, List, ◌++◌, length, IfOk, Some, None, Ok, Err, vec_items, Option, Result, sym, refl, ap, ◌∙◌, subst, ap₂, arith}
-use Rattle.std.proofs.lemmas.Bool.{eq-eqb, le-ltb}
+use Rattle.std.proofs.Common.{◌≡◌, ℕ, ◌*◌, ◌≤◌, Bool, cond, not, ◌||◌, eqb, List, ◌++◌, length, IfOk, Some, None, Ok, Err, vec_items, Option, Result, MatchResult, sym, refl, ap, ◌∙◌, subst, ap₂, arith}
+use Rattle.std.proofs.lemmas.Bool.{cond-true, cond-false, eq-eqb, ne_eqb, le-ltb}
 use Rattle.std.proofs.lemmas.Bool.Decides.{nat_tests}
 use Rattle.fabric.specs.Routes.{Route}
 use Rattle.table.specs.declared.fault.LoadFault.{LoadFault}
@@ -16,12 +16,13 @@ use Rattle.mesh.specs.Makes.{FileMesh}
 use Rattle.mesh.specs.Paths.{mesh_route}
 use Rattle.listed.specs.declared.Listed.{Listed}
 use Rattle.listed.specs.ListedRoutes.{listed_route}
+use Rattle.listed.specs.Meaning.{route_of}
 use Rattle.listed.specs.Made.{Lists, Gives, entries_listed}
 use Rattle.analysis.specs.declared.loaded.Loaded.{Loaded}
 use Rattle.analysis.specs.Answers.{Loads, Exactly}
 use Rattle.analysis.specs.Loading.{misfit_checks, flow_checks, load_checks, timing_of}
 use Rattle.analysis.specs.Rows.{Builds}
-use Rattle.files.specs.Means.{nodes_of, mesh_routes, listed_routes}
+use Rattle.files.specs.Means.{nodes_of, mesh_routes, listed_routes, routes_of}
 
 module _ (bs : List ℕ) where
   abbrev H : Header
@@ -58,11 +59,11 @@ module _ (bs : List ℕ) where
         ∙ first_failed (section_checks (length bs) H) (flow_checks bs (nodes_of H) route) e section
 
     -- a fault of the file is the load's
-    pub file_fault : (e : LoadFault) → first_fault file_checks ≡ Some e → first_fault (load_checks bs (nodes_of H) route 128) ≡ Some e
+    file_fault : (e : LoadFault) → first_fault file_checks ≡ Some e → first_fault (load_checks bs (nodes_of H) route 128) ≡ Some e
     file_fault e fault = past_header (first_fault (header_checks (length bs) H)) e refl fault
 
   -- a mesh that was made, and one that was refused
-  pub mesh_made : (m : Mesh) → FileMesh (checked_file bs) (Ok m) → (m.width ≡ H.width) × (m.height ≡ H.height)
+  mesh_made : (m : Mesh) → FileMesh (checked_file bs) (Ok m) → (m.width ≡ H.width) × (m.height ≡ H.height)
   unfolding checked_file
   mesh_made m is = by (first_fault file_checks) is
     where
@@ -70,7 +71,7 @@ module _ (bs : List ℕ) where
       by None same = same
       by (Some f) same = absurd same
 
-  pub mesh_refused : (e : LoadFault) → FileMesh (checked_file bs) (Err e) → first_fault file_checks ≡ Some e
+  mesh_refused : (e : LoadFault) → FileMesh (checked_file bs) (Err e) → first_fault file_checks ≡ Some e
   unfolding checked_file
   mesh_refused e is = by (first_fault file_checks) is
     where
@@ -78,7 +79,7 @@ module _ (bs : List ℕ) where
       by None same = absurd same
       by (Some f) same = ap Some (sym same)
 
-  pub listed_made : (l : Listed) → Gives bs (checked_file bs) (Ok l) → Lists bs H l
+  listed_made : (l : Listed) → Gives bs (checked_file bs) (Ok l) → Lists bs H l
   unfolding checked_file
   listed_made l is = by (first_fault file_checks) is
     where
@@ -86,7 +87,7 @@ module _ (bs : List ℕ) where
       by None same = same
       by (Some f) same = let z : ◌≡◌ {A = ℕ} 0 1 = cc in absurd (omega arith)
 
-  pub listed_refused : (e : LoadFault) → Gives bs (checked_file bs) (Err e) → (e ≡ NoMemory → ⊥) → first_fault file_checks ≡ Some e
+  listed_refused : (e : LoadFault) → Gives bs (checked_file bs) (Err e) → (e ≡ NoMemory → ⊥) → first_fault file_checks ≡ Some e
   unfolding checked_file
   listed_refused e is other = by (first_fault file_checks) is
     where
@@ -101,21 +102,43 @@ module _ (bs : List ℕ) where
   abbrev Proved : (ℕ → ℕ → ℕ → Route) → Result Loaded LoadFault → Type 0
   Proved route r = IfOk r (λ _. Exactly (timing_of bs route))
 
+  -- where no fabric was made of the file
+  refused :
+      (route : ℕ → ℕ → ℕ → Route) (e : LoadFault) (r : Result Loaded LoadFault) → r ≡ Err e → ((e ≡ NoMemory → ⊥) → first_fault file_checks ≡ Some e) →
+      Answer (nodes_of H) route r × Proved route r
+  refused route e r told fault = subst (λ (q : Result Loaded LoadFault). Answer (nodes_of H) route q × Proved route q) (sym told) (λ other. file_fault route e (fault other), tt)
+
+  -- a load over the mesh of the file, or over its lists, answers for the routes that the file means
   pub over_mesh :
-      (w h : ℕ) (r : Result Loaded LoadFault) → w ≡ H.width → h ≡ H.height →
-      Answer (w * h) (λ i s d. mesh_route w h s d) r → Proved (λ i s d. mesh_route w h s d) r → Answer (nodes_of H) (mesh_routes bs) r × Proved (mesh_routes bs) r
-  over_mesh w h r ew eh a p =
+      (made : Result Mesh LoadFault) (r : Result Loaded LoadFault) → FileMesh (checked_file bs) made →
+      MatchResult made (λ m. Answer (m.width * m.height) (λ i s d. mesh_route m.width m.height s d) r × Proved (λ i s d. mesh_route m.width m.height s d) r) (λ e. r ≡ Err e) →
+      Answer (nodes_of H) (mesh_routes bs) r × Proved (mesh_routes bs) r
+  over_mesh (Ok m) r is told =
       let P : ℕ → ℕ → Type 0 = λ u v. Answer (u * v) (λ i s d. mesh_route u v s d) r × Proved (λ i s d. mesh_route u v s d) r in
-      subst (λ (v : ℕ). P H.width v) eh (subst (λ (u : ℕ). P u h) ew (a, p))
+      let same = mesh_made m is in
+      subst (λ (v : ℕ). P H.width v) same.1 (subst (λ (u : ℕ). P u m.height) same.0 told)
+  over_mesh (Err e) r is told = refused (mesh_routes bs) e r told (λ _. mesh_refused e is)
 
   pub over_listed :
-      (l : Listed) (r : Result Loaded LoadFault) → Lists bs H l →
-      Answer l.nodes (λ i s d. listed_route l.nodes (vec_items l.links) (vec_items l.entries) (vec_items l.numbers) i s d) r →
-      Proved (λ i s d. listed_route l.nodes (vec_items l.links) (vec_items l.entries) (vec_items l.numbers) i s d) r →
-      Answer (nodes_of H) (listed_routes bs) r × Proved (listed_routes bs) r
-  over_listed l r is a p =
+      (made : Result Listed LoadFault) (r : Result Loaded LoadFault) → Gives bs (checked_file bs) made →
+      MatchResult made (λ l. Answer l.nodes (route_of l) r × Proved (route_of l) r) (λ e. r ≡ Err e) → Answer (nodes_of H) (listed_routes bs) r × Proved (listed_routes bs) r
+  over_listed (Ok l) r is told =
       let P : ℕ → List Ends → List RouteEntry → List ℕ → Type 0 = λ n ls es ns. Answer n (λ i s d. listed_route n ls es ns i s d) r × Proved (λ i s d. listed_route n ls es ns i s d) r in
-      subst (λ (ns : List ℕ). P (nodes_of H) (links_of bs H) (entries_listed bs H) ns) is.numbers
-      (subst (λ (es : List RouteEntry). P (nodes_of H) (links_of bs H) es (vec_items l.numbers)) is.entries
-      (subst (λ (ls : List Ends). P (nodes_of H) ls (vec_items l.entries) (vec_items l.numbers)) is.links
-      (subst (λ (n : ℕ). P n (vec_items l.links) (vec_items l.entries) (vec_items l.numbers)) is.nodes (a, p))))
+      let same = listed_made l is in
+      subst (λ (ns : List ℕ). P (nodes_of H) (links_of bs H) (entries_listed bs H) ns) same.numbers
+      (subst (λ (es : List RouteEntry). P (nodes_of H) (links_of bs H) es (vec_items l.numbers)) same.entries
+      (subst (λ (ls : List Ends). P (nodes_of H) ls (vec_items l.entries) (vec_items l.numbers)) same.links
+      (subst (λ (n : ℕ). P n (vec_items l.links) (vec_items l.entries) (vec_items l.numbers)) same.nodes told)))
+  over_listed (Err e) r is told = refused (listed_routes bs) e r told (listed_refused e is)
+
+  -- the file means the mesh where it lists no links, and its lists otherwise
+  pub means_mesh : (r : Result Loaded LoadFault) → H.links ≡ 0 → Answer (nodes_of H) (mesh_routes bs) r × Proved (mesh_routes bs) r → Answer (nodes_of H) (routes_of bs) r × Proved (routes_of bs) r
+  unfolding routes_of
+  means_mesh r none told =
+      subst (λ (R : ℕ → ℕ → ℕ → Route). Answer (nodes_of H) R r × Proved R r) (sym (cond-true (eqb H.links 0) (mesh_routes bs) (listed_routes bs) (eq-eqb _ 0 none))) told
+
+  pub means_lists :
+      (r : Result Loaded LoadFault) → (H.links ≡ 0 → ⊥) → Answer (nodes_of H) (listed_routes bs) r × Proved (listed_routes bs) r → Answer (nodes_of H) (routes_of bs) r × Proved (routes_of bs) r
+  unfolding routes_of
+  means_lists r some told =
+      subst (λ (R : ℕ → ℕ → ℕ → Route). Answer (nodes_of H) R r × Proved R r) (sym (cond-false (eqb H.links 0) (mesh_routes bs) (listed_routes bs) (ne_eqb _ 0 some))) told

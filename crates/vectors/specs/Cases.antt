@@ -1,5 +1,5 @@
 -- What the definitions say of a worked case: a file over the mesh of four columns and one row. Assumes nothing.
-use Rattle.std.specs.Prelude.{◌≡◌, ℕ, List, [], ◌∷◌, length, Some, None, Option}
+use Rattle.std.specs.Prelude.{◌≡◌, ℕ, List, [], ◌∷◌, length, Some, None, Ok, Err, Option, Result}
 use Rattle.fabric.specs.Routes.{Route}
 use Rattle.table.specs.declared.fault.LoadFault.{LoadFault}
 use Rattle.table.specs.File.{header_of, flows_of}
@@ -12,8 +12,6 @@ use Rattle.analysis.specs.declared.figures.Figures.{Figures}
 use Rattle.analysis.specs.Loading.{profile_of, load_checks, timing_of}
 use Rattle.analysis.specs.Tables.{path_of}
 use Rattle.vectors.specs.declared.case.Case.{Case}
-use Rattle.vectors.specs.declared.case.Outcome.{Outcome}
-use Rattle.vectors.specs.declared.case.Outcome.TheVariants.{Loaded, Refused}
 
 -- the routes of the mesh, which do not ask for the flow
 abbrev routes : ℕ → ℕ → ℕ → Route
@@ -32,9 +30,9 @@ figures_for bs i =
     }
 
 -- the first fault, or the figures of the three flows
-abbrev answered : List ℕ → Option LoadFault → Outcome
-answered bs None = Loaded (figures_for bs 1 ∷ figures_for bs 2 ∷ figures_for bs 3 ∷ [])
-answered bs (Some fault) = Refused fault
+abbrev answered : List ℕ → Option LoadFault → Result (List Figures) LoadFault
+answered bs None = Ok (figures_for bs 1 ∷ figures_for bs 2 ∷ figures_for bs 3 ∷ [])
+answered bs (Some fault) = Err fault
 
 abbrev pub Holds : Case → Type 0
 Holds c = answered c.file (first_fault (load_checks c.file 4 routes 128)) ≡ c.expected

@@ -2,7 +2,7 @@
 ghost use Rattle.std.specs.List.{AllByRecursion};
 ghost use Rattle.vectors.specs.Cases.{Holds};
 
-use crate::case::{Case, Outcome};
+use crate::case::Case;
 use analysis::figures::Figures;
 use table::fault::LoadFault;
 
@@ -19,7 +19,7 @@ pub fn cases() -> [Case; 5]
                 0, 0, 0, 160, 0, 0, 0, 160, 0, 0, 0, 2, 0, 3, 0, 100, 0, 0, 0, 144, 1, 0, 0, 144,
                 1, 0, 0,
             ],
-            expected: Outcome::Loaded([
+            expected: Ok([
                 Figures {
                     hops: 3,
                     parts: 1,
@@ -51,7 +51,7 @@ pub fn cases() -> [Case; 5]
                 0, 0, 0, 160, 0, 0, 0, 160, 0, 0, 0, 2, 0, 3, 0, 100, 0, 0, 0, 144, 1, 0, 0, 212,
                 0, 0, 0,
             ],
-            expected: Outcome::Loaded([
+            expected: Ok([
                 Figures {
                     hops: 3,
                     parts: 1,
@@ -83,7 +83,7 @@ pub fn cases() -> [Case; 5]
                 0, 0, 0, 160, 0, 0, 0, 160, 0, 0, 0, 2, 0, 3, 0, 100, 0, 0, 0, 144, 1, 0, 0, 211,
                 0, 0, 0,
             ],
-            expected: Outcome::Loaded([
+            expected: Ok([
                 Figures {
                     hops: 3,
                     parts: 1,
@@ -115,7 +115,7 @@ pub fn cases() -> [Case; 5]
                 0, 0, 0, 160, 0, 0, 0, 160, 0, 0, 0, 2, 0, 3, 0, 100, 0, 0, 0, 144, 1, 0, 0, 144,
                 1, 0, 0,
             ],
-            expected: Outcome::Loaded([
+            expected: Ok([
                 Figures {
                     hops: 3,
                     parts: 2,
@@ -147,7 +147,7 @@ pub fn cases() -> [Case; 5]
                 0, 0, 0, 160, 0, 0, 0, 160, 0, 0, 0, 2, 0, 3, 0, 100, 0, 0, 0, 144, 1, 0, 0, 144,
                 1, 0, 0,
             ],
-            expected: Outcome::Refused(LoadFault::Capacity { flow: 2, byte: 48 }),
+            expected: Err(LoadFault::Capacity { flow: 2, byte: 48 }),
         },
     ]
 }

@@ -1,8 +1,8 @@
-use Rattle.std.proofs.Common.{◌≡◌, ℕ, ◌+◌, ◌-◌, Bool, List, length, get_or, Some, None, sym, ap, ◌∙◌, arith}
+use Rattle.std.proofs.Common.{◌≡◌, ℕ, ◌+◌, ◌-◌, Bool, List, length, get_or, Some, None, ap, ◌∙◌, arith}
 use Rattle.table.specs.declared.fault.LoadFault.{LoadFault}
 use Rattle.table.specs.declared.header.Header.{Header}
 use Rattle.table.specs.declared.records.FlowRecord.{FlowRecord}
-use Rattle.table.specs.Checks.{first_fault, unless}
+use Rattle.table.specs.Checks.{first_fault}
 use Rattle.table.proofs.Firsts.{unless_err, unless_ok, exits}
 use Rattle.analysis.specs.Loading.{record_checks, each_flow}
 use Rattle.analysis.specs.Tables.{record_of, no_record}
@@ -37,10 +37,3 @@ loop-k-preserved c =
     let k = c.loop-k.k in
     let here = same c.args.setting.now.header c.args.nodes c.args.setting.now.slot.length c.args.records.now k ∙ unless_ok _ tt tt c.in_ok-check_record.ensures in
     turn_is f k None c.loop-k.invariant here
-
-pub returns : goal.returns
-returns c =
-    let f = checks_of c.args.setting.now.header c.args.nodes c.args.setting.now.slot.length c.args.records.now in
-    let n = length c.args.records.now in
-    let all : c.loop-k.k ≡ n = omega arith in
-    sym (ap (λ k. unless (first_fault (each_flow f k)) tt) (sym all) ∙ ap (λ o. unless o tt) c.loop-k.invariant)

@@ -1,9 +1,8 @@
-use Rattle.std.proofs.Common.{◌≡◌, ℕ, ◌+◌, length, Some, None, Ok, Err, vec_items, sym, refl, ap, ◌∙◌, subst, arith}
-use Rattle.table.specs.Checks.{first_fault}
-use Rattle.analysis.specs.Loading.{each_flow, route_checks_of}
+use Rattle.std.proofs.Common.{◌+◌, length, Some, None, Ok, Err, vec_items, sym, refl, subst, arith}
+use Rattle.analysis.specs.Loading.{route_checks_of}
 use Rattle.analysis.specs.Rows.{RowsFit}
-use Rattle.analysis.proofs.Built.{built_fault, built_nothing}
-use Rattle.analysis.proofs.Loads.{no_rows, row_more, turn_built, apart_from}
+use Rattle.analysis.proofs.Built.{built_fault}
+use Rattle.analysis.proofs.Loads.{no_rows, row_more, turn_built}
 use Rattle.analysis.proofs.Turns.{none_yet, turn_is, stays}
 use Rattle.analysis.proofs.taking.load_rows.Goals as goal
 
@@ -14,18 +13,6 @@ loop-flow-init g c =
       none_yet (route_checks_of c.args.setting.now.header c.args.setting.now.slot c.args.setting.now.profile rs R),
       subst (RowsFit c.args.setting.now.slot c.args.setting.now.profile rs R 0) (sym c.new-rows.ensures.items) (no_rows c.args.setting.now.slot c.args.setting.now.profile rs R),
     )
-
-pub invariant_of-turn : goal.invariant_of-turn
-invariant_of-turn g c =
-    let rows = vec_items c.loop-flow.rows in
-    let fit = c.loop-flow.invariant.1 in
-    let lent = c.as_slice.ensures.value in
-    record {
-      few = omega (arith, ap length lent, fit.count, c.loop-flow-test.true, c.requires.few);
-      apart =
-          apart_from c.args.setting.now.slot c.args.setting.now.profile c.args.records.now (g.F.Fabric.route c.args.fabric.now) c.loop-flow.flow-index rows c.as_slice.result.now
-          lent fit (omega (arith, c.loop-flow-test.true)) c.requires.apart;
-    }
 
 pub returns-in_err-row : goal.returns-in_err-row
 returns-in_err-row g c =
@@ -40,9 +27,6 @@ returns-in_err-row g c =
     c.as_slice.ensures.value inv.1 c.loop-flow-test.true refl c.in_err-row.ensures in
     built_fault _ _ _ e c.from_residual.ensures.1
     (λ other. stays checks (k + 1) (length rs) e (omega (arith, c.loop-flow-test.true)) (turn_is checks k (Some e) inv.0 (built other)))
-
-pub returns-in_err-push : goal.returns-in_err-push
-returns-in_err-push g c = built_nothing _ _ _ c.from_residual-in_err-push.ensures.1
 
 pub loop-flow-preserved : goal.loop-flow-preserved
 loop-flow-preserved g c =
@@ -59,15 +43,4 @@ loop-flow-preserved g c =
       turn_is checks k None inv.0 built.0,
       subst (RowsFit c.args.setting.now.slot c.args.setting.now.profile rs R (k + 1)) (sym c.in_ok-push.ensures.items)
           (row_more c.args.setting.now.slot c.args.setting.now.profile rs R k rows row inv.1 built.1),
-    )
-
-pub returns : goal.returns
-returns g c =
-    let rs = c.args.records.now in
-    let R = g.F.Fabric.route c.args.fabric.now in
-    let checks = route_checks_of c.args.setting.now.header c.args.setting.now.slot c.args.setting.now.profile rs R in
-    let all : c.loop-flow.flow-index ≡ length rs = omega (arith, c.loop-flow-test.false) in
-    let inv = c.loop-flow.invariant in (
-      ap (λ (n : ℕ). first_fault (each_flow checks n)) (sym all) ∙ inv.0,
-      subst (λ (n : ℕ). RowsFit c.args.setting.now.slot c.args.setting.now.profile rs R n (vec_items c.loop-flow.rows)) all inv.1,
     )

@@ -1,5 +1,4 @@
 use Rattle.std.proofs.Common.{◌≡◌, ℕ, ◌+◌, ◌<◌, ◌≤◌, vec_items, sum_by, sym, ap, ◌∙◌, subst, arith}
-use Rattle.std.proofs.lemmas.Bool.{ltb-false}
 use Rattle.staircase.specs.declared.demand.Demand.{Demand}
 use Rattle.staircase.specs.Terms.{charge}
 use Rattle.timing.specs.Counts.{sum_to}
@@ -20,13 +19,6 @@ loop-k-init c = (
       let n = next c.args.self.now in
       ap (sum_by (charge x)) c.new-demand.ensures.terms ∙ delays_first b (bound_of b) n x (none_first b met.told.ordered n),
 )
-
-pub unreachable-requires : goal.unreachable-requires
-unreachable-requires c =
-    let row = c.row-item.result in
-    let apart = c.args.self.now.turn.apart c.loop-k.k row c.loop-k-test.true in
-    let same = ap (λ (r : Row). r.record.separation) c.row-item.is in
-    omega (arith, ltb-false 0 row.record.separation (sym c.in_default.ensures.some), apart, same)
 
 pub loop-k-preserved : goal.loop-k-preserved
 loop-k-preserved c =
