@@ -3,6 +3,7 @@ use crate::answer::{Answer, NoRoute, Refusal, Row};
 use crate::case::Case;
 use crate::numbered::{Cause, Reason, UnknownNumber};
 use crate::second::link::Link;
+use crate::second::network::Trip;
 use analysis::figures::Figures;
 use analysis::load::load;
 use analysis::loaded::Loaded;
@@ -10,6 +11,7 @@ use anyhow::anyhow;
 use fabric::fabric::Fabric;
 use fabric::fault::RouteFault;
 use fabric::route::Ends;
+use fabric::trip;
 use std::alloc::Global;
 use table::fault::LoadFault;
 
@@ -62,6 +64,16 @@ impl From<Ends> for Link {
         Link {
             start: ends.start as u64,
             stop: ends.stop as u64,
+        }
+    }
+}
+
+impl From<Trip> for trip::Trip {
+    fn from(trip: Trip) -> trip::Trip {
+        trip::Trip {
+            flow: trip.flow as usize,
+            source: trip.source as usize,
+            destination: trip.destination as usize,
         }
     }
 }

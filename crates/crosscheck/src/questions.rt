@@ -70,32 +70,21 @@ pub struct Sides<'a, 'b, F> {
 
 impl<F: Fabric> Sides<'_, '_, F> {
     fn told_link(&self, trip: Trip, k: usize) -> Option<u64> {
-        let link = self.theirs.route_link(
-            trip.flow as usize,
-            trip.source as usize,
-            trip.destination as usize,
-            k,
-        )?;
+        let link = self.theirs.route_link(trip.into(), k)?;
         Some(link as u64)
     }
 
     // What the library tells, asked for as many links as the second calculation told.
     fn told_by_library(&self, heap: Global, trip: Trip, asked: usize) -> anyhow::Result<Told> {
-        let length = self.theirs.route_len(
-            trip.flow as usize,
-            trip.source as usize,
-            trip.destination as usize,
-        );
+        let length = match self.theirs.route_len(trip.into()) {
+            Ok(length) => Ok(length as u64),
+            Err(fault) => Err(NoRoute::try_from(fault)?),
+        };
         let links = (0..asked.saturating_sub(1))
             .chain(once(usize::MAX))
-            .map(|k| self.told_link(trip, k));
-        Ok(Told {
-            length: match length {
-                Ok(length) => Ok(length as u64),
-                Err(fault) => Err(NoRoute::try_from(fault)?),
-            },
-            links: links.collect(heap)?,
-        })
+            .map(|k| self.told_link(trip, k))
+            .collect(heap)?;
+        Ok(Told { length, links })
     }
 
     fn ask_ends(&self, bench: &Bench, link: u64) -> anyhow::Result<()> {

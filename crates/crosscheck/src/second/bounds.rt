@@ -133,14 +133,12 @@ impl Ranking {
 
     // The equation of the next flow; none where a flow above it has no bound.
     fn equation(&self, next: &Carried, above: &[usize]) -> Result<Option<Equation>, AllocError> {
-        let mut loads = Vec::new(self.heap);
-        for place in above {
-            let Some(load) = self.load_of(*place, above) else {
-                return Ok(None);
-            };
-            loads.push(load)?;
-        }
-        Ok(Some(Equation {
+        let loads: Vec<Load> = above
+            .iter()
+            .filter_map(|place| self.load_of(*place, above))
+            .collect(self.heap)?;
+        let all = loads.len() == above.len();
+        Ok(all.then_some(Equation {
             base: self.base_of(&next.cut),
             loads,
             deadline: next.flow.pace.deadline,
