@@ -20,7 +20,8 @@ impl Dice {
         x.wrapping_mul(0x2545_F491_4F6C_DD1D) >> 16
     }
 
-    // A number below a limit; 0 where there is none.
+    // A number below a limit; 0 where there is none. A `match` of it draws one of some ways, whose arms say how often each comes; a list of
+    // closures would be no plainer.
     pub fn below(&mut self, limit: u64) -> u64 {
         if limit == 0 {
             return 0;

@@ -22,7 +22,7 @@ pub struct Run<M> {
     clock: Clock,
     // as load was handed it
     number: u32,
-    // the count of the ledger's records
+    // the count of the ledger's records; the ledger itself is lent at each call
     count: usize,
     phase: Phase,
     // where an injection is owed, a next slot can be counted

@@ -57,7 +57,7 @@ impl<M: Medium> Run<M> {
         Event::Abandoned { slip, answer }
     }
 
-    // Makes one call, and answers it with its answer.
+    // Makes one call, and answers it with its answer. A match, since a list of calls is data that the promise speaks of.
     fn play_call(&mut self, call: Call, ledger: &mut [Record]) -> Event
         ensures step { StepsTo M.most result (state_of M.levels self.old) ledger.old (state_of M.levels self.new) ledger.new }
         ensures call { call_of result ≡ call }
