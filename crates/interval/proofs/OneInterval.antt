@@ -1,11 +1,12 @@
 -- One interval from its opening to its reading: each pull changes the last level alone, and the interval just opened is the last.
-use Rattle.std.proofs.Common.{◌≡◌, ℕ, ◌+◌, ◌-◌, ◌<◌, Bool, true, false, cond, not, ◌&&◌, ◌||◌, ltb, List, [], ◌∷◌, ◌++◌, length, get_or, drop, set, Some, None, sym, refl, ap, ◌∙◌, arith}
+use Rattle.std.proofs.Common.{◌≡◌, ℕ, ◌+◌, ◌-◌, ◌<◌, Bool, true, false, cond, not, ◌&&◌, ◌||◌, ltb, List, [], ◌∷◌, ◌++◌, length, get_or, drop, set, Some, None, Ok, unwrap_or, sym, refl, ap, ◌∙◌, arith}
 use Rattle.std.proofs.lemmas.List.{length-set, set-set, set_at, length_push, get_or_at, at_drop_more}
 use Rattle.std.proofs.Math.Bool.{and-true, or-true}
 use Rattle.std.proofs.lemmas.Bool.{lt-ltb, cond_both}
 use Rattle.medium.specs.declared.level.Level.{Level}
 use Rattle.medium.specs.declared.level.Level.TheVariants.{Recessive, Dominant}
-use Rattle.medium.specs.Levels.{level_of, opened, pulled, read_at}
+use Rattle.medium.specs.Levels.{level_of, may_open, opened, pulled, read_at}
+use Rattle.medium.proofs.Refusals.{open_accepted}
 use Rattle.interval.specs.declared.whole.Puller.{Puller}
 use Rattle.interval.specs.Intervals.{pulled_if, pressed, some_pull, quiet_at}
 
@@ -81,3 +82,12 @@ contested most ls start begun end own rest node k at under lt opening first othe
     let one = press_more start start begun false own node lt refl first in
     let all = others ∙ ap (λ l. pressed l rest) one ∙ press_twice start own rest ∙ ap (λ l. pressed l (own || rest)) new ∙ press_last ls false (own || rest) in
     (all, ap (λ l. quiet_at (read_at l k)) all ∙ quiet_last ls (own || rest) k at)
+
+-- The whole interval, after an accepted open: what the medium holds after the pulls, and what is then read at the place of the interval.
+pub whole : (most : ℕ) (ls start end : List Level) (ps : List Puller) (k : ℕ) (level : Level) → Ok tt ≡ may_open most (length ls) → start ≡ opened most ls → end ≡ pressed start (some_pull ps)
+    → k ≡ length ls → level ≡ unwrap_or (read_at end k) Recessive → (ltb (length ls) most ≡ true) × (end ≡ ls ++ (level_of (some_pull ps) ∷ [])) × (level ≡ level_of (some_pull ps))
+whole most ls start end ps k level may begun done at told =
+    let under = open_accepted most (length ls) may in
+    let new = begun ∙ ap (λ t. cond t (ls ++ (Recessive ∷ [])) ls) under in
+    let all = done ∙ ap (λ l. pressed l (some_pull ps)) new ∙ press_last ls false (some_pull ps) in
+    (under, all, told ∙ ap (λ l. unwrap_or (read_at l k) Recessive) all ∙ ap (λ o. unwrap_or o Recessive) (read_last ls (level_of (some_pull ps)) k (sym at)))

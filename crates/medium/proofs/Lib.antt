@@ -1,3 +1,5 @@
 pub mod LevelLists
+pub mod SetBits
+pub mod Fronts
 pub mod Refusals
 pub mod NodePulls
