@@ -76,12 +76,13 @@ impl<T: Drop> From<AllocFailed<T>> for LoadRefusal {
 // The one line that reports a refusal, as a table's refusal is reported.
 impl fmt::Display for LoadRefusal {
     fn fmt<W: fmt::Write>(&self, f: &mut fmt::Formatter<W>) -> fmt::Result {
-        if let LoadRefusal::Fault(fault) = self {
-            return fault.fmt(f);
+        match self {
+            LoadRefusal::Owed => {
+                let number = Refusal::Owed.number();
+                let (flow, byte) = (self.flow(), self.byte());
+                write!(f, "refused {number} flow {flow} byte {byte}")
+            }
+            LoadRefusal::Fault(fault) => fault.fmt(f),
         }
-        let number = Refusal::Owed.number();
-        let flow = self.flow();
-        let byte = self.byte();
-        write!(f, "refused {number} flow {flow} byte {byte}")
     }
 }
