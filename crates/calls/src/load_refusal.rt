@@ -79,12 +79,13 @@ impl fmt::Display for LoadRefusal {
     ghost output = { λ refusal. Some (load_line refusal) };
 
     fn fmt<W: fmt::Write>(&self, f: &mut fmt::Formatter<W>) -> fmt::Result {
-        if let LoadRefusal::Fault(fault) = self {
-            return fault.fmt(f);
+        match self {
+            LoadRefusal::Owed => {
+                let number = Refusal::Owed.number();
+                let (flow, byte) = (self.flow(), self.byte());
+                write!(f, "refused {number} flow {flow} byte {byte}")
+            }
+            LoadRefusal::Fault(fault) => fault.fmt(f),
         }
-        let number = Refusal::Owed.number();
-        let flow = self.flow();
-        let byte = self.byte();
-        write!(f, "refused {number} flow {flow} byte {byte}")
     }
 }
