@@ -59,6 +59,10 @@ impl Naive {
         let pulled = pullers
             .iter()
             .any(|puller| puller.pulls && puller.node <= 255);
-        self.add(Level::from(pulled))
+        self.add(if pulled {
+            Level::Dominant
+        } else {
+            Level::Recessive
+        })
     }
 }

@@ -27,7 +27,7 @@ impl Above {
     }
 }
 
-// It has the same marks, and never fails, since no memory is asked for; a derived clone would not say so.
+// It has the same marks, and never fails, since no memory is asked for; with a derived clone the filling of rows was not proved.
 impl Clone for Above {
     ghost is_clone = { λ above copy. copy ≡ above };
 

@@ -24,38 +24,37 @@ impl Lists<'_> {
         })
     }
 
-    // Where a link leads to that comes after others, from a vertex on.
-    fn follow(self, at: u64, before: &[u64], link: u64) -> Result<u64, Cause> {
-        let ends = self.ends(link).ok_or(Cause::UnknownLink)?;
+    // What is wrong with a link after those before it, each of which was found right.
+    fn wrong(self, trip: Trip, before: &[u64], link: u64) -> Option<Cause> {
+        let Some(ends) = self.ends(link) else {
+            return Some(Cause::UnknownLink);
+        };
+        let (at, cause) = match before.last().and_then(|last| self.ends(*last)) {
+            Some(last) => (last.stop, Cause::Gap),
+            None => (core(trip.source), Cause::Start),
+        };
         if ends.start != at {
-            return Err(if before.is_empty() {
-                Cause::Start
-            } else {
-                Cause::Gap
-            });
+            return Some(cause);
         }
-        if before.contains(&link) {
-            return Err(Cause::Repeated);
-        }
-        Ok(ends.stop)
+        before.contains(&link).then_some(Cause::Repeated)
     }
 
     // Whether links lead from the source's core to the destination's.
     fn check(self, trip: Trip, links: &[u64]) -> Result<(), NoRoute> {
-        let mut at = core(trip.source);
-        for (k, link) in links.iter().enumerate() {
+        let wrong = links.iter().enumerate().find_map(|(k, link)| {
+            let cause = self.wrong(trip, &links[..k], *link)?;
             let hop = (k as u64).saturating_add(1);
-            at = self
-                .follow(at, &links[..k], *link)
-                .map_err(|cause| NoRoute { hop, cause })?;
-        }
-        if at != core(trip.destination) {
-            return Err(NoRoute {
+            Some(NoRoute { hop, cause })
+        });
+        let end = links.last().and_then(|last| self.ends(*last));
+        match (wrong, end) {
+            (Some(fault), _) => Err(fault),
+            (None, Some(end)) if end.stop == core(trip.destination) => Ok(()),
+            _ => Err(NoRoute {
                 hop: links.len() as u64,
                 cause: Cause::End,
-            });
+            }),
         }
-        Ok(())
     }
 
     // Which numbers of the number list belong to the route of a flow: the first, and how many.

@@ -28,14 +28,8 @@ impl<M: Medium> Run<M> {
     fn check_release(&self, flow: usize, cycle: u64, len: usize) -> Result<(), Refusal>
         ensures { result ≡ unless (first_refusal (release_checks (state_of M.levels self.now) len flow cycle)) tt }
     {
-        match self.phase {
-            Phase::Ended => return Err(Refusal::Ended),
-            Phase::Owed => return Err(Refusal::Owed),
-            Phase::Open => {}
-        }
-        let Some(row) = self.row(flow) else {
-            return Err(Refusal::NoFlow);
-        };
+        self.phase.open()?;
+        let row = self.row(flow).ok_or(Refusal::NoFlow)?;
         if self.clock.late(flow, cycle) {
             return Err(Refusal::Late);
         }

@@ -32,11 +32,7 @@ impl<M: Medium> Run<M> {
     fn arbitrate_step(&mut self) -> Result<Slip, Refusal>
         ensures { Arbitrates M.most (state_of M.levels self.old) (named result) (state_of M.levels self.new) }
     {
-        match self.phase {
-            Phase::Ended => return Err(Refusal::Ended),
-            Phase::Owed => return Err(Refusal::Owed),
-            Phase::Open => {}
-        }
+        self.phase.open()?;
         if self.clock.slot == u32::MAX {
             return Err(Refusal::LastSlot);
         }
