@@ -38,3 +38,12 @@ pub struct RouteFault {
     pub hop: usize,
     pub cause: Cause,
 }
+
+// A cause that is about no hop.
+impl From<Cause> for RouteFault {
+    ghost from_gives = { λ cause fault. fault ≡ record { hop = 0; cause = cause } };
+
+    fn from(cause: Cause) -> RouteFault {
+        RouteFault { hop: 0, cause }
+    }
+}

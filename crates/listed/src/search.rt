@@ -34,9 +34,7 @@ impl Listed {
     pub(crate) fn find_route(&self, trip: Trip) -> Result<&[u16], RouteFault>
         ensures { result_map_both (λ x. x.now) (λ fault. fault) result ≡ route_of self.now trip.flow trip.source trip.destination }
     {
-        let numbers = self
-            .listed_numbers(trip)
-            .map_err(|cause| RouteFault { hop: 0, cause })?;
+        let numbers = self.listed_numbers(trip)?;
         walk(&self.links, numbers, 2 * trip.source, 2 * trip.destination)?;
         Ok(numbers)
     }

@@ -16,7 +16,7 @@ impl Path {
     {
         let len = fabric.route_len(trip)?;
         let mut links = ArrayVec::new();
-        // a fabric tells a route link by link, by its number
+        // a `for`: `extend` would answer an error that cannot come
         for k in 0..len {
             let Some(link) = fabric.route_link(trip, k) else {
                 unreachable()

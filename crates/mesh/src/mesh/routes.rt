@@ -40,17 +40,11 @@ impl Mesh {
         ensures { result_map_both walk_links (λ fault. fault) result ≡ mesh_route self.now.width self.now.height trip.source trip.destination }
     {
         if !self.has(trip.source) || !self.has(trip.destination) {
-            return Err(RouteFault {
-                hop: 0,
-                cause: Cause::UnknownNode,
-            });
+            return Err(Cause::UnknownNode.into());
         }
         let walk = Walk { mesh: self, trip };
         if walk.links() > MOST_LINKS {
-            return Err(RouteFault {
-                hop: 0,
-                cause: Cause::Length,
-            });
+            return Err(Cause::Length.into());
         }
         Ok(walk)
     }
