@@ -21,7 +21,8 @@ pub(crate) struct Rivals<'a> {
 }
 
 impl Rivals<'_> {
-    // Whether every flow that delays a rival, by its row and number, delays this one too.
+    // Whether every flow that delays a rival, by its row and number, delays this one too. A loop hands out the two together, so that a struct for
+    // them would be no plainer.
     fn delays_within(&self, row: &Row, number: usize) -> bool
         ensures { (b : Table) → Rival b self.now row.now number → result ≡ within b number (next self.now) }
     {

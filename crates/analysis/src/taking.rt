@@ -47,6 +47,7 @@ impl Turn<'_> {
             source: usize::from(flow.source),
             destination: usize::from(flow.destination),
         };
+        // a rule of the project: the route is taken by `let .. else`, and its absence becomes the load's own fault
         let asked = Path::take(fabric, trip);
         let Ok(path) = asked else {
             let byte = self.record_byte();

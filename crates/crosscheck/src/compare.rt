@@ -44,6 +44,7 @@ impl Bench<'_> {
         answer_of(self.rt.alloc(), case, &fabric)
     }
 
+    // The library's answer.
     fn first_answer(&mut self, case: &Case) -> anyhow::Result<Answer> {
         let file = case.network.file.bytes;
         match case.network.kind {

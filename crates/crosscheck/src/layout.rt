@@ -24,11 +24,13 @@ struct Pen<'a> {
 }
 
 impl Pen<'_> {
+    // Writes a number of so many bytes, and goes on behind it.
     fn put(&mut self, width: u64, value: u64) {
         put(self.file, self.at, width, value);
         self.at = self.at.saturating_add(width);
     }
 
+    // Writes a separation and a deadline.
     fn put_pace(&mut self, pace: Pace) {
         self.put(4, pace.separation);
         self.put(4, pace.deadline);
@@ -80,6 +82,7 @@ fn arrange(dice: &mut Dice, plan: &Plan) -> Layout {
     }
 }
 
+// Writes the header, with the sections that a mesh does not have left out.
 fn put_header(file: &mut [u8], plan: &Plan, layout: &Layout) {
     let recipe = plan.recipe;
     let mut pen = Pen { file, at: 0 };
@@ -121,6 +124,7 @@ pub fn put_flows(file: &mut [u8], at: u64, flows: &[Flow]) {
     }
 }
 
+// Writes the ends of each link from a byte on.
 fn put_links(file: &mut [u8], at: u64, links: &[Link]) {
     let mut pen = Pen { file, at };
     for link in links {
@@ -129,6 +133,7 @@ fn put_links(file: &mut [u8], at: u64, links: &[Link]) {
     }
 }
 
+// Writes a route entry for each flow from a byte on.
 fn put_entries(file: &mut [u8], at: u64, routes: &[Placed]) {
     let mut pen = Pen { file, at };
     for route in routes {

@@ -73,6 +73,7 @@ impl Reason {
     ];
 }
 
+// Each of these stands twice, for causes and for reasons: an impl by a macro of our own is refused.
 impl From<Cause> for u8 {
     fn from(cause: Cause) -> u8 {
         cause as u8

@@ -15,22 +15,26 @@ struct Seen<K: Ord> {
 }
 
 impl<K: Ord + Copy> Seen<K> {
+    // None was seen yet.
     fn new(heap: Global) -> Seen<K> {
         Seen {
             times: BTreeMap::new(heap),
         }
     }
 
+    // A case was seen once more.
     fn note(&mut self, case: K) -> Result<(), AllocError> {
         let times = self.times.entry(case)?.or_insert(0);
         *times = times.saturating_add(1);
         Ok(())
     }
 
+    // How often a case was seen.
     fn times(&self, case: K) -> u64 {
         self.times.get(&case).copied().unwrap_or(0)
     }
 
+    // Whether each of these was seen.
     fn has_all(&self, cases: &[K]) -> bool {
         cases.iter().all(|case| self.times.contains_key(case))
     }
@@ -146,7 +150,6 @@ impl fmt::Display for Tally {
             hops,
             parts,
             rounds,
-            routes,
             ..
         } = self;
         writeln!(f, "flows {bounded} bounded, {unbounded} unbounded")?;
@@ -154,6 +157,13 @@ impl fmt::Display for Tally {
             f,
             "at most {flows} flows, {hops} hops, {parts} parts, {rounds} rounds"
         )?;
+        self.write_cases(f)
+    }
+}
+
+impl Tally {
+    // How often each profile, refusal and cause was seen, and how many routes were asked for.
+    fn write_cases<W: fmt::Write>(&self, f: &mut fmt::Formatter<W>) -> fmt::Result {
         for board in BOARDS {
             let profile = board.profile;
             let loaded = self.profiles.times(profile);
@@ -163,6 +173,7 @@ impl fmt::Display for Tally {
             let told = self.refusals.times(reason);
             writeln!(f, "refusal {reason}: {told}")?;
         }
+        let routes = self.routes;
         writeln!(f, "routes {routes} asked")?;
         for cause in Cause::ALL {
             let at_load = self.causes.times(cause);

@@ -32,7 +32,7 @@ impl Cause {
     }
 }
 
-// Why there is no route: the hop, from 1 (0 where it is about no hop), and the cause.
+// Why there is no route: the hop, from 1 (0 where it is about no hop, as the line that reports it says), and the cause.
 #[derive(Clone, Copy, PartialEq, Eq)]
 pub struct RouteFault {
     pub hop: usize,

@@ -7,7 +7,7 @@ use medium::fault::MediumFault;
 use medium::level::Level;
 use medium::medium::Medium;
 
-// The node pulls the last interval if `pulls` says so, and keeps still otherwise.
+// The node pulls the last interval if `pulls` says so, and keeps still otherwise. With an optional node it would be no plainer: each source has one.
 pub fn pull_if<M: Medium>(medium: &mut M, node: usize, pulls: bool) -> Result<(), MediumFault>
     ensures answer { result ≡ may_pull_if (length (M.levels medium.old)) node pulls }
     ensures after { M.levels medium.new ≡ pulled_if (M.levels medium.old) node pulls }

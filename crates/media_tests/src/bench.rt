@@ -24,6 +24,7 @@ impl<M: Medium + Drop> Bench<M> {
         }
     }
 
+    // What was counted.
     pub fn tally(&self) -> &Tally {
         &self.tally
     }

@@ -25,6 +25,7 @@ impl Script {
     }
 
     // The next number of a xorshift sequence, below n. A `match` of it draws one of some ways; a list of closures would be no plainer.
+    // The sequence is its own, since the stored output shows what it draws.
     fn below(&mut self, n: u64) -> u64
         requires { 0 < n }
         ensures { result < n }

@@ -51,6 +51,7 @@ impl Medium for Line {
 
     fn pull(&mut self, node: usize) -> Result<(), MediumFault> {
         check_pull(self.levels.len(), node)?;
+        // by index: the contract of `last_mut` says nothing of what the levels end as
         let last = self.levels.len() - 1;
         self.levels[last] = Level::Dominant;
         Ok(())

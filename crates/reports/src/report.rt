@@ -17,7 +17,7 @@ fn tell(flows: &[FlowRow], records: &[Record]) -> Report
 {
     let mut pending = 0;
     let mut tightest = None;
-    // a loop, since one pass over the lent records is to count and to search
+    // a rule of the project: one loop over the lent records, with their index, counts and searches
     for (place, packet) in records.iter().enumerate() {
         pending += usize::from(packet.pending);
         if let Some(timely) = timely_at(flows, place, packet) {

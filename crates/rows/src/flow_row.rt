@@ -12,7 +12,7 @@ pub struct Progress {
     pub place: usize,
     // its last release
     pub last: Option<u64>,
-    // whether it wanted, and was granted, in the slot last arbitrated
+    // whether it wanted, and was granted, in the slot last arbitrated: two marks, since the promise speaks of who wanted and of who was granted
     pub wanted: bool,
     pub granted: bool,
 }

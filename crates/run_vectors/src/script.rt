@@ -25,7 +25,7 @@ fn add_slots(calls: &mut Vec<Call>, first: u32, count: u8) -> Result<(), AllocEr
     Ok(())
 }
 
-// The calls of all steps.
+// The calls of all steps. A match, since steps are data that the worked cases speak of.
 pub fn calls_of(heap: Global, steps: &[Step; 4]) -> Result<Vec<Call>, AllocError>
     ensures { IfOk result (λ calls. calls.items ≡ calls_in 0 steps.now) }
 {

@@ -59,7 +59,7 @@ pub fn decide<M: Medium>(medium: &mut M, rows: &mut Rows)
     ensures levels { M.levels medium.new ≡ levels_of M.most (decided M.most [] rows.old) }
 {
     medium.clear();
-    // by place: the rows before one are read, and then it is marked
+    // by place: `iter_mut` lends a row to be marked while those before it are still read, which the check refuses
     for k in 0..rows.len() {
         let flows = rows.as_slice();
         let granted = run_interval(medium, &flows[..k], &flows[k]);

@@ -7,7 +7,8 @@ use calls::record::Record;
 use rows::clock::Clock;
 use rows::rows::Rows;
 
-// Serves each flow in turn, writes the ledger, and answers how many were granted.
+// Serves each flow in turn, writes the ledger, and answers how many were granted: the second half of a slot, beside the first. The rows lend
+// themselves one by one, so that the loop is theirs.
 pub fn serve_all(rows: &mut Rows, clock: &Clock, ledger: &mut [Record]) -> usize
     ensures answer { result ≡ grant_count rows.old }
     ensures rows { rows.new ≡ map served rows.old }

@@ -49,7 +49,7 @@ pub enum LoadFault {
 }
 
 impl LoadFault {
-    // The number by which reports name the refusal; want of memory has none.
+    // The number by which reports name the refusal; want of memory has none. A match, since a case with fields has no number of its own.
     pub fn number(self) -> Option<u8>
         ensures { result ≡ fault_number self }
     {

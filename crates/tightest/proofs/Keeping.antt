@@ -1,4 +1,4 @@
--- What is kept of items that are offered in turn is the tightest of them. Assumes nothing.
+-- What is kept of items that are handed in in turn is the tightest of them. Assumes nothing.
 use Rattle.std.proofs.Common.{◌≡◌, ℕ, zero, suc, ◌<◌, Bool, true, false, List, [], ◌∷◌, length, get_or, Some, None, Option, sym, refl, ap, ◌∙◌, arith}
 use Rattle.std.proofs.lemmas.Bool.{cond_both}
 use Rattle.std.proofs.lemmas.Cmp.{tied_itself, upto}

@@ -23,7 +23,7 @@ tightest_from before best xs = fold (tighter before) best xs
 abbrev pub tightest_of : {T : Type 0} → (T → T → Bool) → List T → Option T
 tightest_of before xs = tightest_from before None xs
 
--- it stands at a place in the list, no item comes before it, and it comes before every item that was offered earlier
+-- it stands at a place in the list, no item comes before it, and it comes before every item that was handed in earlier
 pub record Leads {T : Type 0} (before : T → T → Bool) (xs : List T) (x : T) : Type 0 where
   pub place : ℕ
   pub inside : place < length xs

@@ -53,6 +53,7 @@ struct Equation {
 }
 
 impl Load {
+    // The cycles that it takes within a window of x.
     fn within(&self, x: u64) -> u64 {
         if self.separation == 0 {
             return 0;
@@ -63,6 +64,7 @@ impl Load {
 }
 
 impl Equation {
+    // The base, and what all loads take within a window of x.
     fn right_side(&self, x: u64) -> u64 {
         let loads = self.loads.iter();
         loads.fold(self.base, |sum, load| sum.saturating_add(load.within(x)))

@@ -6,7 +6,7 @@ use crate::second::file::File;
 use crate::second::records::{Flow, Pace, Record, Slot};
 use crate::second::sections::Section;
 
-// Whether the header field that starts at a byte is out of its range.
+// Whether the header field that starts at a byte is out of its range. By the byte, since that is how a refusal tells a field.
 fn field_wrong(file: File, byte: u64) -> bool {
     match byte {
         0 => !(1..=128).contains(&file.flows()),
@@ -60,6 +60,7 @@ pub fn check_file(case: &Case) -> Result<Slot, Refusal> {
     Ok(slot)
 }
 
+// Whether a flow's nodes, payload, separation or deadline are out of range.
 fn flow_wrong(flow: &Flow, nodes: u64) -> bool {
     let Pace {
         separation,
@@ -73,6 +74,7 @@ fn flow_wrong(flow: &Flow, nodes: u64) -> bool {
         || !(1..=separation).contains(&deadline)
 }
 
+// One record, and that its separation is no shorter than a slot.
 fn check_record(record: &Record, nodes: u64, slot: u64) -> Result<(), Refusal> {
     if flow_wrong(&record.flow, nodes) {
         Err(record.refused(Reason::Record))

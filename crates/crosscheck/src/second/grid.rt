@@ -32,6 +32,7 @@ pub struct Grid {
 }
 
 impl Grid {
+    // The mesh of a file's width and height.
     pub fn of(file: File) -> Grid {
         Grid {
             width: file.width(),
@@ -117,6 +118,7 @@ impl Grid {
         Some(Link::between(node, next))
     }
 
+    // The ends of a link, looked for at each node.
     pub fn ends(self, link: u64) -> Option<Link> {
         (0..self.nodes).find_map(|node| self.ends_at(node, link))
     }

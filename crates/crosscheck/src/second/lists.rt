@@ -13,6 +13,7 @@ pub struct Lists<'a> {
 }
 
 impl Lists<'_> {
+    // The ends of a link, as its record has them.
     pub fn ends(self, link: u64) -> Option<Link> {
         if link >= self.file.links() {
             return None;
@@ -75,6 +76,7 @@ impl Lists<'_> {
         }
     }
 
+    // The numbers that a flow's entry points at, if they make a route.
     pub fn route(self, heap: Global, trip: Trip) -> Result<Route, AllocError> {
         let (first, length) = match self.entry(trip.flow) {
             Ok(entry) => entry,

@@ -6,16 +6,19 @@ use medium::level::Level;
 use medium::medium::Medium;
 
 impl<M: Medium + Drop> Bench<M> {
+    // An open is answered so.
     fn open_is(&mut self, wanted: Result<(), MediumFault>) {
         let told = self.medium.open();
         self.tally.compared(Check::Edge, told == wanted);
     }
 
+    // A pull is answered so.
     fn pull_is(&mut self, node: usize, wanted: Result<(), MediumFault>) {
         let told = self.medium.pull(node);
         self.tally.compared(Check::Edge, told == wanted);
     }
 
+    // A read is answered so.
     fn read_is(&mut self, k: usize, wanted: Option<Level>) {
         let told = self.medium.read(k);
         self.tally.compared(Check::Edge, told == wanted);

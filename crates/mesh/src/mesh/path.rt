@@ -20,7 +20,7 @@ impl Walk<'_> {
     ghost use Rattle.fabric.specs.Routes.{link_of};
     ghost use Rattle.mesh.specs.Trips.{walk_links};
 
-    // Its leg along x, and the one along y; a closure that tells the column or the row would be no plainer than the two lines of each.
+    // Its leg along x, and below it the one along y; a closure that tells the column or the row would be no plainer than the two lines of each.
     fn along_x(&self) -> Leg
         ensures from { result.from ≡ column self.now.mesh.now.width self.now.trip.source }
         ensures to { result.to ≡ column self.now.mesh.now.width self.now.trip.destination }
@@ -32,6 +32,7 @@ impl Walk<'_> {
         }
     }
 
+    // Its leg along y.
     fn along_y(&self) -> Leg
         ensures from { result.from ≡ row self.now.mesh.now.width self.now.trip.source }
         ensures to { result.to ≡ row self.now.mesh.now.width self.now.trip.destination }

@@ -75,7 +75,7 @@ impl<M: Medium> Run<M> {
         Ok(())
     }
 
-    // Accepts a packet of a flow, released at a cycle, into the slot, and appends its record to the ledger.
+    // Accepts a packet of a flow, released at a cycle, into the slot, and appends its record to the ledger. The two come as the subject names them.
     pub fn release(&mut self, flow: usize, cycle: u64, ledger: &mut [Record]) -> Result<(), Refusal>
         ensures after { Releases (state_of M.levels self.old) ledger.old flow cycle result (state_of M.levels self.new) ledger.new }
         ensures promise { Upholds M.most (Released flow cycle result) (state_of M.levels self.old) ledger.old (state_of M.levels self.new) ledger.new }
