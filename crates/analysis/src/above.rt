@@ -1,10 +1,11 @@
 // Which flows of higher priority share a link with a flow.
-use arrayvec::ArrayVec;
+ghost use Rattle.std.specs.Prelude.{◌≡◌, length};
 
 pub mod marks;
 
-// By flow number less one.
-#[derive(Drop)]
+// By flow number less one. An array, which an assignment copies: a vector of fixed capacity is not `Copy`.
+#[derive(Clone, Copy)]
 pub struct Above {
-    flags: ArrayVec<bool, 128>,
+    flags: [bool; 128],
+    ghost long: { length flags ≡ 128 },
 }

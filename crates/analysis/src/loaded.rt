@@ -25,8 +25,9 @@ impl Loaded {
     pub fn figures(&self, flow: usize) -> Option<Figures>
         ensures { result ≡ figures_at self.now.rows.items flow }
     {
-        let place = flow.checked_sub(1)?;
-        let row = self.rows.get(place)?;
-        Some(row.figures())
+        if !(1..=self.flows()).contains(&flow) {
+            return None;
+        }
+        Some(self.rows[flow - 1].figures())
     }
 }

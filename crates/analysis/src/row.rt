@@ -7,7 +7,7 @@ use crate::figures::Figures;
 use fabric::path::Path;
 use table::records::FlowRecord;
 
-#[derive(Clone, Drop)]
+#[derive(Clone, Copy)]
 pub struct Row {
     pub record: FlowRecord,
     // the route that its packets take

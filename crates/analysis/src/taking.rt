@@ -88,7 +88,7 @@ impl Turn<'_> {
         let length = u64::from(self.setting.slot.length);
         let parts = u64::from(split.parts);
         let alone = parts.saturating_sub(1) * length + split.tail;
-        let above = Above::sharing(heap, self.rows, &path)?;
+        let above = Above::sharing(self.rows, &path);
         let rivals = Rivals {
             turn: *self,
             marks: &above,

@@ -8,10 +8,11 @@ use std::process::ExitCode;
 
 fn print_table(rt: &HostRuntime, loaded: &Loaded) -> anyhow::Result<()> {
     println!(rt; "flow hops parts alone bound rounds")?;
-    for (k, row) in loaded.rows.iter().enumerate() {
-        let flow = k + 1;
-        let figures = row.figures();
-        println!(rt; "{flow} {figures}")?;
+    // by number: what the figures are is promised of these two calls
+    for flow in 1..=loaded.flows() {
+        if let Some(figures) = loaded.figures(flow) {
+            println!(rt; "{flow} {figures}")?;
+        }
     }
     Ok(())
 }

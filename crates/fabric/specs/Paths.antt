@@ -1,13 +1,13 @@
 -- Routes that are kept, and when two of them share a link. Assumes nothing.
 --   links_in: the links of a kept route; stored: a kept route, or why there is none
 --   has: a link stands in a route; shares: one link number stands in both routes
-use Rattle.std.specs.Prelude.{ℕ, Bool, false, ◌||◌, List, [], ◌∷◌, Ok, Err, Result, ◌==◌}
+use Rattle.std.specs.Prelude.{ℕ, Bool, false, ◌||◌, List, [], ◌∷◌, take, Ok, Err, Result, ◌==◌}
 use Rattle.fabric.specs.declared.fault.RouteFault.{RouteFault}
 use Rattle.fabric.specs.declared.path.Path.{Path}
 use Rattle.fabric.specs.Routes.{Route}
 
 abbrev pub links_in : Path → List ℕ
-links_in p = p.links.items
+links_in p = take p.len p.links
 
 abbrev pub stored : Result Path RouteFault → Route
 stored (Ok p) = Ok (links_in p)

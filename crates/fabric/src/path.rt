@@ -1,12 +1,13 @@
 // A route that was taken from a fabric and is kept: its links in their order.
-ghost use Rattle.std.specs.Prelude.{◌≤◌, length};
-
-use arrayvec::ArrayVec;
+ghost use Rattle.std.specs.Prelude.{◌≡◌, ◌≤◌, length};
 
 pub mod taken;
 
-#[derive(Drop)]
+// An array and a count, which an assignment copies: a vector of fixed capacity is not `Copy`.
+#[derive(Clone, Copy)]
 pub struct Path {
-    links: ArrayVec<usize, 64>,
-    ghost few: { length links.items ≤ 64 },
+    links: [usize; 64],
+    len: usize,
+    ghost long: { length links ≡ 64 },
+    ghost few: { len ≤ 64 },
 }

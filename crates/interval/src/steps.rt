@@ -1,5 +1,5 @@
 // The steps of an interval. None of them asks anything of its caller.
-ghost use Rattle.std.specs.Prelude.{◌≡◌, length};
+ghost use Rattle.std.specs.Prelude.{◌≡◌, length, if◌then◌else◌, Some, None, nat_lt};
 ghost use Rattle.medium.specs.Levels.{read_at};
 ghost use Rattle.interval.specs.Intervals.{may_pull_if, pulled_if, quiet_at};
 
@@ -22,12 +22,20 @@ pub fn is_quiet<M: Medium>(medium: &M, k: usize) -> bool
     medium.read(k) == Some(Level::Recessive)
 }
 
+// The first interval below a limit that is not open, if there is one.
+fn first_closed<M: Medium>(medium: &M, limit: usize) -> Option<usize>
+    ensures { result ≡ (if nat_lt (length (M.levels medium.now)) limit then Some (length (M.levels medium.now)) else None) }
+{
+    (0..limit).find(|k| medium.read(*k).is_none())
+}
+
 // How many intervals are open, found by reading. Who counts them while opening needs no such search.
 pub fn count<M: Medium>(medium: &M) -> usize
     ensures { result ≡ length (M.levels medium.now) }
 {
     let limit = medium.limit();
-    (0..limit)
-        .find(|k| medium.read(*k).is_none())
-        .unwrap_or(limit)
+    match first_closed(medium, limit) {
+        Some(k) => k,
+        None => limit,
+    }
 }

@@ -3,6 +3,7 @@
 --   margin_of rows r: what a packet left of its flow's bound, none where it is open or late or its flow has no bound
 --   timely_at rows p r: the packet whose record stands at place p, if it arrived in time
 --   closer: which of two packets came closer: by the margin that it left, then its release, its flow and its place
+--   closest best found: what is kept of the packet that came closest so far and one more, if that arrived in time
 --   tightest_record rows k: the place of the record that came closest, if any arrived in time
 --   InTime rows r m: the packet arrived in time, and left the margin m
 --   TightestRecord rows k place: the place is that of the record that came closest, or no packet arrived in time
@@ -11,7 +12,7 @@ use Rattle.calls.specs.declared.record.Record.{Record}
 use Rattle.calls.specs.Events.{no_record}
 use Rattle.rows.specs.declared.flow_row.FlowRow.{FlowRow}
 use Rattle.rows.specs.Blank.{no_row}
-use Rattle.tightest.specs.Order.{tightest_of}
+use Rattle.tightest.specs.Order.{tighter, tightest_of}
 use Rattle.tightest.specs.Counted.{counted}
 use Rattle.tightest.specs.Numbers.{lower}
 use Rattle.reports.specs.declared.timely.Timely.{Timely}
@@ -40,6 +41,10 @@ timely_ranks t = t.margin ∷ t.release ∷ t.flow ∷ t.place ∷ []
 
 abbrev pub closer : Timely → Timely → Bool
 closer a b = lower (timely_ranks a) (timely_ranks b)
+
+abbrev pub closest : Option Timely → Option Timely → Option Timely
+closest best None = best
+closest best (Some found) = tighter closer best found
 
 abbrev pub place_of : Option Timely → Option ℕ
 place_of None = None

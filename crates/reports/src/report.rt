@@ -1,15 +1,26 @@
 // The report of a ledger.
 ghost use Rattle.std.specs.Prelude.{◌≡◌, ◌+◌, take, IfOk};
-ghost use Rattle.reports.specs.Margins.{TightestRecord};
+ghost use Rattle.reports.specs.Margins.{closest, TightestRecord};
 ghost use Rattle.reports.specs.Reports.{told, report_of};
 
-use crate::timely::timely_at;
+use crate::timely::{Timely, timely_at};
 use calls::record::Record;
 use calls::refusal::Refusal;
 use calls::report::Report;
 use rows::flow_row::FlowRow;
 use rows::rows::Rows;
 use tightest::kept::tighter;
+
+// What is kept of the packet that came closest so far and the packet of the next record, if that one arrived in time.
+#[tactic(auto, using(crate::proofs::Orders::closer_is))]
+fn closest(best: Option<Timely>, found: Option<Timely>) -> Option<Timely>
+    ensures { result ≡ closest best found }
+{
+    match found {
+        Some(timely) => tighter(best, timely),
+        None => best,
+    }
+}
 
 // Counts the records, from the first to the last, and finds the one that came closest to its bound.
 fn tell(flows: &[FlowRow], records: &[Record]) -> Report
@@ -20,9 +31,7 @@ fn tell(flows: &[FlowRow], records: &[Record]) -> Report
     // a rule of the project: one loop over the lent records, with their index, counts and searches
     for (place, packet) in records.iter().enumerate() {
         pending += usize::from(packet.pending);
-        if let Some(timely) = timely_at(flows, place, packet) {
-            tightest = tighter(tightest, timely);
-        }
+        tightest = closest(tightest, timely_at(flows, place, packet));
     }
     Report {
         accepted: records.len(),

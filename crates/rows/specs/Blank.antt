@@ -1,7 +1,7 @@
 -- A row of a flow that has released nothing. Assumes nothing.
 --   idle: the row of a flow just loaded
 --   no_flow: what a read past the last flow gives; no_row: past the last row
-use Rattle.std.specs.Prelude.{false, [], None}
+use Rattle.std.specs.Prelude.{false, None, refl, replicate}
 use Rattle.std.proofs.Common.{lit≤}
 use Rattle.analysis.specs.declared.row.Row.{Row}
 use Rattle.analysis.specs.Tables.{no_record}
@@ -14,11 +14,11 @@ abbrev pub no_flow : Row
 no_flow =
     record {
       «record» = no_record;
-      path = record { links = record { items = [] }; few = lit≤ tt };
+      path = record { links = replicate 64 0; len = 0; long = refl; few = lit≤ tt };
       parts = 0;
       tail = 0;
       alone = 0;
-      above = record { flags = record { items = [] } };
+      above = record { flags = replicate 128 false; long = refl };
       bound = None;
       rounds = 0;
     }

@@ -17,7 +17,7 @@ pub struct Progress {
     pub granted: bool,
 }
 
-#[derive(Clone, Drop)]
+#[derive(Clone, Copy)]
 pub struct FlowRow {
     // what load fixed
     pub flow: Row,

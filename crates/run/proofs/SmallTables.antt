@@ -4,8 +4,10 @@
 use Rattle.std.proofs.Common.{◌≡◌, ℕ, zero, suc, ◌+◌, ◌-◌, ◌^◌, ◌<◌, ◌≤◌, Bool, true, false, ◌||◌, eqb, ltb, leb, List, [], ◌∷◌, ◌++◌, map, length, get_or, is_some, Some, None, Option, unwrap_or, sym, refl, ap, subst, mul-le-mul, arith}
 use Rattle.std.proofs.lemmas.List.{get_or-map, length-map}
 use Rattle.std.proofs.lemmas.Bool.{or_parts, leb-false, ltb-false}
+use Rattle.fabric.specs.declared.path.Path.{Path}
 use Rattle.fabric.specs.Paths.{links_in}
 use Rattle.fabric.specs.Routes.{Route}
+use Rattle.fabric.proofs.Kept.{kept_length}
 use Rattle.table.specs.declared.fault.LoadFault.{LoadFault}
 use Rattle.table.specs.declared.fault.LoadFault.TheVariants.{Record, Separation}
 use Rattle.table.specs.declared.header.Header.{Header}
@@ -79,6 +81,9 @@ tail_short p hops flits swift few small =
     let more : flits + 1 ≤ 65536 = omega arith in
     omega (arith, mul-le-mul routed swift.routing, mul-le-mul few swift.transfer, mul-le-mul more swift.transfer)
 
+few_links : (path : Path) → length (links_in path) ≤ 64
+few_links path = omega (arith, kept_length path, path.few)
+
 module _ (bs : List ℕ) (nodes most : ℕ) (route : ℕ → ℕ → ℕ → Route) (fine : first_fault (load_checks bs nodes route most) ≡ None) where
   abbrev h : Header
   h = header_of bs
@@ -123,7 +128,7 @@ module _ (bs : List ℕ) (nodes most : ℕ) (route : ℕ → ℕ → ℕ → Rou
       let links : length (links_in row.path) ≡ length (path_of slot p rs route i) = ap length fit.links in
       let flits = last_flits p (flits_of slot p rs route i) (record_of rs i).payload in
       let last : flits ≤ (record_of rs i).payload = last_le p (flits_of slot p rs route i) (record_of rs i).payload (sound h.profile p known).flit in
-      let short = tail_short p (length (path_of slot p rs route i)) flits (quick h.profile p known) (omega (arith, row.path.few)) (omega (arith, size.payload)) in
+      let short = tail_short p (length (path_of slot p rs route i)) flits (quick h.profile p known) (omega (arith, few_links row.path)) (omega (arith, size.payload)) in
       record { near = omega (arith, size.source); brief = omega (arith, fit.stands.tail, tail_is i) }
 
   pub small_rows : (rows : List Row) → nodes ≤ 256 → RowsFit slot p rs route h.flows rows → Small (map idle rows)

@@ -1,7 +1,8 @@
 -- The run that a load of three flows leaves. Assumes nothing.
 --   Spare: what a load does not fix of a flow's row, and a run never reads: places past the end of its route, marks of itself and of the flows below it
 --   start_of: the run, given these; roomy: a row can hold the flow
-use Rattle.std.proofs.Common.{◌≡◌, ℕ, zero, suc, ◌+◌, ◌-◌, ◌<◌, ◌≤◌, Bool, true, false, ◌&&◌, leb, List, [], ◌∷◌, map, length, get_or, sym, refl, ap, ◌∙◌, arith, lit<}
+use Rattle.std.proofs.Common.{◌≡◌, ℕ, zero, suc, ◌+◌, ◌-◌, ◌<◌, ◌≤◌, Bool, true, false, ◌&&◌, leb, List, [], ◌∷◌, ◌++◌, map, length, get_or, replicate, sym, refl, ap, ◌∙◌, subst, arith, lit<, lit≤}
+use Rattle.std.proofs.lemmas.List.{length-append, length-replicate, take_at}
 use Rattle.std.proofs.lemmas.Bool.{and_parts, leb-true}
 use Rattle.analysis.specs.declared.row.Row.{Row}
 use Rattle.analysis.specs.Loading.{profile_of}
@@ -19,7 +20,17 @@ use Rattle.timing.specs.Model.{Table, alone}
 use Rattle.timing.specs.Figures.{bound_of, rounds_of}
 use Rattle.history.specs.Begun.{Begun}
 use Rattle.history.specs.State.{State}
-use Rattle.run_vectors.proofs.Flags.{above_of, long-enough, marks-are, marks-of}
+use Rattle.run_vectors.proofs.Flags.{flags_of, marks-are, marks-of, no_more}
+
+-- a list of links in the places of a route
+abbrev padded : (links : List ℕ) → length links ≤ 64 → Path
+padded links few =
+    record {
+      links = links ++ replicate (64 - length links) 0;
+      len = length links;
+      long = length-append links (replicate (64 - length links) 0) ∙ omega (arith, length-replicate {A = ℕ} (64 - length links) 0);
+      few = few;
+    }
 
 each-of-three : (P : ℕ → Row → Type 0) (r r' r'' : Row) → P 1 r → P 2 r' → P 3 r'' → (k : ℕ) (d : Row) → k < 3 → P (k + 1) (get_or (r ∷ r' ∷ r'' ∷ []) k d)
 each-of-three P r r' r'' one two three zero d less = one
@@ -34,6 +45,7 @@ module _ (slot : Slot) (p : Profile) (rs : List FlowRecord) (route : ℕ → ℕ
   pub record Spare (i : ℕ) : Type 0 where
     pub path : Path
     pub rest : List Bool
+    pub long : length (flags_of b i rest) ≡ 128
 
   abbrev pub row_of : (i : ℕ) → Spare i → Row
   row_of i x =
@@ -43,62 +55,63 @@ module _ (slot : Slot) (p : Profile) (rs : List FlowRecord) (route : ℕ → ℕ
         parts = b.w i;
         tail = b.c i;
         alone = alone b i;
-        above = above_of b i x.rest;
+        above = record { flags = flags_of b i x.rest; long = x.long };
         bound = bound_of b i;
         rounds = rounds_of b i;
       }
 
   -- each row that a load may leave is such a row,
-  row_is : (i : ℕ) → (r : Row) → RowFits slot p rs route i r → i - 1 ≤ length r.above.flags.items → (x : Spare i) × (r ≡ row_of i x)
-  row_is i r fits long =
+  row_is : (i : ℕ) → i ≤ 128 → (r : Row) → RowFits slot p rs route i r → (x : Spare i) × (r ≡ row_of i x)
+  row_is i few r fits =
       let s = fits.stands in
-      let m = marks-are b i r.above s.marks long in (
-        record { path = r.path; rest = m.0 },
+      let m = marks-are b i few r.above s.marks in (
+        record {
+          path = r.path;
+          rest = m.0;
+          long = subst (λ (l : List Bool). length l ≡ 128) m.1 r.above.long;
+        },
         λ j. record {
           «record» = fits.flow j;
           path = r.path;
           parts = s.parts j;
           tail = s.tail j;
           alone = s.alone_is j;
-          above = record { flags = record { items = m.1 j } };
+          above = record { flags = m.1 j; long = coe 0 j (k. length (m.1 k) ≡ 128) r.above.long };
           bound = s.bound j;
           rounds = s.rounds j;
         },
       )
 
-  -- each flow but the first shares a link with the one just above
-  abbrev pub chained : Bool
-  chained = b.H 1 2 && b.H 2 3
-
   pub rows_are :
-      (rows : List Row) → length rows ≡ 3 → ((k : ℕ) (d : Row) → k < length rows → RowFits slot p rs route (k + 1) (get_or rows k d)) → chained ≡ true →
+      (rows : List Row) → length rows ≡ 3 → ((k : ℕ) (d : Row) → k < length rows → RowFits slot p rs route (k + 1) (get_or rows k d)) →
       (x : Spare 1) × (y : Spare 2) × (z : Spare 3) × (rows ≡ row_of 1 x ∷ row_of 2 y ∷ row_of 3 z ∷ [])
-  rows_are [] three each tied = absurd (omega arith)
-  rows_are (r ∷ []) three each tied = absurd (omega arith)
-  rows_are (r ∷ r' ∷ []) three each tied = absurd (omega arith)
-  rows_are (r ∷ r' ∷ r'' ∷ []) three each tied =
-      let ties = and_parts (b.H 1 2) (b.H 2 3) tied in
-      let one = each 0 r (lit< tt) in
-      let two = each 1 r (lit< tt) in
-      let last = each 2 r (lit< tt) in
-      let x = row_is 1 r one (omega arith) in
-      let y = row_is 2 r' two (long-enough b 2 r'.above two.stands.marks (lit< tt) ties.0) in
-      let z = row_is 3 r'' last (long-enough b 3 r''.above last.stands.marks (lit< tt) ties.1) in
+  rows_are [] three each = absurd (omega arith)
+  rows_are (r ∷ []) three each = absurd (omega arith)
+  rows_are (r ∷ r' ∷ []) three each = absurd (omega arith)
+  rows_are (r ∷ r' ∷ r'' ∷ []) three each =
+      let x = row_is 1 (lit≤ tt) r (each 0 r (lit< tt)) in
+      let y = row_is 2 (lit≤ tt) r' (each 1 r (lit< tt)) in
+      let z = row_is 3 (lit≤ tt) r'' (each 2 r (lit< tt)) in
       (x.0, y.0, z.0, λ j. x.1 j ∷ y.1 j ∷ z.1 j ∷ [])
-  rows_are (r ∷ r' ∷ r'' ∷ r''' ∷ rows) three each tied = absurd (omega arith)
+  rows_are (r ∷ r' ∷ r'' ∷ r''' ∷ rows) three each = absurd (omega arith)
 
   -- and there is one, if it can hold the flow
   abbrev pub roomy : ℕ → Bool
   roomy i = leb (length (path_of slot p rs route i)) 64
 
-  pub row-for : (i : ℕ) → roomy i ≡ true → (x : Spare i) × RowFits slot p rs route i (row_of i x)
+  pub row-for : (i : ℕ) → i ≤ 128 → roomy i ≡ true → (x : Spare i) × RowFits slot p rs route i (row_of i x)
   unfolding table_of
-  row-for i room =
-      let links = path_of slot p rs route i in (
-        record { path = record { links = record { items = links }; few = leb-true (length links) 64 room }; rest = [] },
+  row-for i few room =
+      let links = path_of slot p rs route i in
+      let rest = replicate (128 - (i - 1)) false in (
+        record {
+          path = padded links (leb-true (length links) 64 room);
+          rest = rest;
+          long = no_more b i few;
+        },
         record {
           flow = refl;
-          links = refl;
+          links = take_at links (replicate (64 - length links) 0) (length links) refl;
           stands =
               record {
                 parts = refl;
@@ -106,7 +119,7 @@ module _ (slot : Slot) (p : Profile) (rs : List FlowRecord) (route : ℕ → ℕ
                 alone_is = refl;
                 separation = refl;
                 deadline = refl;
-                marks = marks-of b i [];
+                marks = marks-of b i few rest (no_more b i few);
                 bound = refl;
                 rounds = refl;
               };
@@ -136,9 +149,9 @@ module _ (bs : List ℕ) (route : ℕ → ℕ → ℕ → Route) where
       record { number = number; slot = 0; times = slot; count = 0; owed = false; ended = false; rows = map idle (flows_with x); levels = [] }
 
   -- what a load leaves is such a run,
-  pub begun-is : (number : ℕ) (s : State) → (header_of bs).flows ≡ 3 → chained slot p rs route ≡ true → Begun bs route number s → (x : Spares) × (s ≡ start_of number x)
-  begun-is number s three tied begun =
-      let rows = rows_are slot p rs route begun.flows (begun.fit.count ∙ three) begun.fit.each tied in
+  pub begun-is : (number : ℕ) (s : State) → (header_of bs).flows ≡ 3 → Begun bs route number s → (x : Spares) × (s ≡ start_of number x)
+  begun-is number s three begun =
+      let rows = rows_are slot p rs route begun.flows (begun.fit.count ∙ three) begun.fit.each in
       let same = begun.rows ∙ ap (map idle) rows.3 in (
         record { first = rows.0; second = rows.1; third = rows.2 },
         λ j. record {
@@ -153,9 +166,6 @@ module _ (bs : List ℕ) (route : ℕ → ℕ → ℕ → Route) where
         },
       )
 
-  abbrev pub chained_for : Bool
-  chained_for = chained slot p rs route
-
   -- and there is one, if its rows can hold the flows
   abbrev pub roomy_for : Bool
   roomy_for = roomy slot p rs route 1 && (roomy slot p rs route 2 && roomy slot p rs route 3)
@@ -164,9 +174,9 @@ module _ (bs : List ℕ) (route : ℕ → ℕ → ℕ → Route) where
   begun-for number three room =
       let tests = and_parts (roomy slot p rs route 1) (roomy slot p rs route 2 && roomy slot p rs route 3) room in
       let more = and_parts (roomy slot p rs route 2) (roomy slot p rs route 3) tests.1 in
-      let one = row-for slot p rs route 1 tests.0 in
-      let two = row-for slot p rs route 2 more.0 in
-      let last = row-for slot p rs route 3 more.1 in
+      let one = row-for slot p rs route 1 (lit≤ tt) tests.0 in
+      let two = row-for slot p rs route 2 (lit≤ tt) more.0 in
+      let last = row-for slot p rs route 3 (lit≤ tt) more.1 in
       let x : Spares = record { first = one.0; second = two.0; third = last.0 } in (
         x,
         record {

@@ -56,6 +56,7 @@ fn run_interval<M: Medium>(medium: &mut M, before: &[FlowRow], row: &FlowRow) ->
 // Decides who is granted in the slot: the flows have their intervals in turn, and each row is marked.
 pub fn decide<M: Medium>(medium: &mut M, rows: &mut Rows)
     ensures rows { rows.new ≡ decided M.most [] rows.old }
+    ensures small { Small rows.new }
     ensures levels { M.levels medium.new ≡ levels_of M.most (decided M.most [] rows.old) }
 {
     medium.clear();

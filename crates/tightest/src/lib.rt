@@ -5,4 +5,5 @@
 #![tactic(auto)]
 
 pub mod kept;
+pub mod ranked;
 pub mod whole;

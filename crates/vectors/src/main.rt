@@ -4,7 +4,6 @@
 mod case;
 mod cases;
 
-use analysis::row::Row;
 use anyhow::anyhow;
 use case::Case;
 use cases::cases;
@@ -14,7 +13,10 @@ use std::alloc::Global;
 // Whether the library answers what is expected.
 fn agrees(heap: Global, case: &Case) -> bool {
     match (load_file(heap, &case.file), case.expected) {
-        (Ok(loaded), Ok(expected)) => loaded.rows.iter().map(Row::figures).eq(expected),
+        (Ok(loaded), Ok(expected)) => {
+            let found = (1..=loaded.flows()).map(|flow| loaded.figures(flow));
+            found.eq(expected.into_iter().map(Some))
+        }
         (Err(fault), Err(expected)) => fault == expected,
         _ => false,
     }

@@ -1,40 +1,29 @@
-// Marking the flows that share a link, asking for one, and copying the marks.
-ghost use Rattle.std.specs.Prelude.{⊤, ◌≡◌, map, IfOk};
+// Marking the flows that share a link, and asking for one.
+ghost use Rattle.std.specs.Prelude.{◌≡◌, ◌≤◌, map, length, take};
 ghost use Rattle.analysis.specs.Marks.{marked, shares_with};
 
 use super::Above;
 use crate::row::Row;
 use fabric::path::Path;
-use std::alloc::{AllocError, Global};
 
 impl Above {
     // Marks which of the flows, from flow 1 on, share a link with a route.
-    pub(crate) fn sharing(heap: Global, rows: &[Row], path: &Path) -> Result<Above, AllocError>
-        ensures { IfOk result (λ above. above.flags.items ≡ map (shares_with path.now) rows.now) }
+    pub(crate) fn sharing(rows: &[Row], path: &Path) -> Above
+        requires { length rows.now ≤ 128 }
+        ensures { take (length rows.now) result.flags ≡ map (shares_with path.now) rows.now }
     {
-        let flags = rows.iter().map(|row| row.path.shares(path)).collect(heap)?;
-        Ok(Above { flags })
+        let mut flags = [false; 128];
+        // a `for`: `collect` makes no array, and could answer want of memory
+        for (h, row) in rows.iter().enumerate() {
+            flags[h] = row.path.shares(path);
+        }
+        Above { flags }
     }
 
     // Whether a flow is marked, by its number.
     pub fn has(&self, flow: usize) -> bool
         ensures { result ≡ marked self.now flow }
     {
-        let Some(place) = flow.checked_sub(1) else {
-            return false;
-        };
-        self.flags.get(place).copied().unwrap_or(false)
-    }
-}
-
-// It has the same marks, and never fails, since no memory is asked for; with a derived clone the filling of rows was not proved.
-impl Clone for Above {
-    ghost is_clone = { λ above copy. copy ≡ above };
-
-    ghost is_infallible = { λ _. ⊤ };
-
-    fn clone(&self) -> Result<Above, AllocError> {
-        let flags = self.flags.clone()?;
-        Ok(Above { flags })
+        (1..=128).contains(&flow) && self.flags[flow - 1]
     }
 }

@@ -5,7 +5,7 @@ ghost use Rattle.rows.specs.Blank.{no_row};
 ghost use Rattle.rows.specs.Grants.{mark};
 ghost use Rattle.rows.specs.Releases.{begun};
 ghost use Rattle.rows.specs.Serving.{served, noted, wrote, ledger_after, one, grant_count};
-ghost use Rattle.rows.specs.Small.{IsSmall};
+ghost use Rattle.rows.specs.Small.{IsSmall, Small};
 ghost use Rattle.rows.specs.Times.{slot_end};
 
 use super::Rows;
@@ -16,7 +16,8 @@ use calls::record::Record;
 impl Rows {
     // Opens a packet of the flow in row k: its release, and the place of its record.
     pub fn begin(&mut self, k: usize, cycle: u64, place: usize)
-        ensures { self.new ≡ slice_set self.old k (begun (slice_index_or self.old k no_row) cycle place) }
+        ensures rows { self.new ≡ slice_set self.old k (begun (slice_index_or self.old k no_row) cycle place) }
+        ensures small { Small self.new }
     {
         if let Some(row) = self.items.get_mut(k) {
             row.progress.left = row.flow.parts;
@@ -28,7 +29,8 @@ impl Rows {
 
     // Notes of row k whether its flow wants, and whether it is granted.
     pub fn mark(&mut self, k: usize, granted: bool)
-        ensures { self.new ≡ slice_set self.old k (mark (slice_index_or self.old k no_row) granted) }
+        ensures rows { self.new ≡ slice_set self.old k (mark (slice_index_or self.old k no_row) granted) }
+        ensures small { Small self.new }
     {
         if let Some(row) = self.items.get_mut(k) {
             row.progress.wanted = row.progress.left > 0;
@@ -90,10 +92,24 @@ impl FlowRow {
 }
 
 impl Rows {
+    // Gives row k its grant or its denial, and writes it into the ledger; 1 for a grant.
+    pub fn serve(&mut self, k: usize, clock: &Clock, ledger: &mut [Record]) -> usize
+        ensures answer { result ≡ one (slice_index_or self.old k no_row) }
+        ensures rows { self.new ≡ slice_set self.old k (served (slice_index_or self.old k no_row)) }
+        ensures small { Small self.new }
+        ensures ledger { ledger.new ≡ wrote (slot_end clock.now.times clock.now.slot) (slice_index_or self.old k no_row) ledger.old }
+    {
+        match self.items.get_mut(k) {
+            Some(row) => row.serve(clock, ledger),
+            None => 0,
+        }
+    }
+
     // Serves each flow in turn, writes the ledger, and answers how many were granted.
     pub fn serve_all(&mut self, clock: &Clock, ledger: &mut [Record]) -> usize
         ensures answer { result ≡ grant_count self.old }
         ensures rows { self.new ≡ map served self.old }
+        ensures small { Small self.new }
         ensures ledger { ledger.new ≡ ledger_after (slot_end clock.now.times clock.now.slot) self.old ledger.old }
     {
         let mut grants = 0;

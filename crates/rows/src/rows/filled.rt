@@ -1,5 +1,5 @@
 // Filling the rows, and reading them.
-ghost use Rattle.std.specs.Prelude.{◌≡◌, ◌^◌, ◌&&◌, [], length, IfOk, nat_lt};
+ghost use Rattle.std.specs.Prelude.{◌≡◌, ◌^◌, ◌&&◌, [], length, IfOk, IfSome, nat_lt};
 ghost use Rattle.rows.specs.Blank.{idle};
 ghost use Rattle.rows.specs.Filling.{Fills};
 ghost use Rattle.rows.specs.Small.{Small};
@@ -38,22 +38,23 @@ impl Rows {
 
     // The flows of a table that was just loaded, unless the figures of one of them are not small.
     pub fn fill(heap: Global, flows: &[Row]) -> Result<Option<Rows>, AllocError>
-        ensures { IfOk result (Fills flows.now) }
+        ensures rows { IfOk result (Fills flows.now) }
+        ensures small { IfOk result (λ filled. IfSome filled Small) }
     {
         let mut items = Vec::new(heap);
         for flow in flows {
             if !is_small(flow) {
                 return Ok(None);
             }
-            let flow = flow.clone()?;
-            items.push(idle(flow))?;
+            items.push(idle(*flow))?;
         }
         Ok(Some(Rows { items }))
     }
 
     // How many flows there are.
     pub fn len(&self) -> usize
-        ensures { result ≡ length self.now }
+        ensures len { result ≡ length self.now }
+        ensures small { Small self.now }
     {
         self.items.len()
     }

@@ -1,17 +1,14 @@
 use Rattle.std.proofs.Common.{rules, ◌≡◌, ◌+◌, ◌-◌, ◌<◌, cond, List, length, get_or, drop, Option, sym, ◌∙◌, ap, arith}
-use Rattle.std.specs.List.{cons_option}
 use Rattle.std.proofs.lemmas.List.{at_drop_more, at_drop_all}
 use Rattle.calls.specs.Events.{no_record}
 use Rattle.calls.specs.declared.record.Record.{Record}
-use Rattle.tightest.specs.Order.{comes_before, tightest_from, tightest_of}
+use Rattle.tightest.specs.Order.{tightest_from, tightest_of}
 use Rattle.tightest.specs.Counted.{counted}
 use Rattle.reports.specs.declared.timely.Timely.{Timely}
-use Rattle.reports.specs.Margins.{timely_at, place_of, tightest_record}
+use Rattle.reports.specs.Margins.{timely_at, closer, closest, place_of, tightest_record}
 use Rattle.reports.specs.Reports.{arrived_in, pending_in}
 use Rattle.reports.proofs.Counting.{counts_add}
-use Rattle.reports.proofs.Orders.{timely_cmp, closer_is}
 use Rattle.reports.proofs.Turns.{at_most_one, timely_more}
-use Rattle.reports.proofs.report.tell.Goals.{in-Some, in_default}
 use Rattle.reports.proofs.report.tell.Goals as goal
 
 pub loop-place-preserved : goal.loop-place-preserved
@@ -21,24 +18,14 @@ loop-place-preserved c =
     let i = c.loop-place.place in
     let best = c.loop-place.tightest in
     let inv = c.loop-place.invariant in
-    let before = comes_before timely_cmp in
-    let rest = counted (timely_at rows) (i + 1) (drop (i + 1) k) in
     let l : i < length k = c.loop-place-test.true in
     let one : c.from-pending.result ≡ cond (get_or k i no_record).pending 1 0 = search rules in
     let left : pending_in (drop i k) ≡ cond (get_or k i no_record).pending 1 0 + pending_in (drop (i + 1) k) = at_drop_more pending_in k i no_record l in
-    let turn : tightest_from before c.match-timely_at.tightest rest ≡ tightest_from before best (cons_option c.timely_at.result rest) =
-    elim c.match-timely_at.branch [
-      | in-Some w ↦
-          ap (λ (b : Option Timely). tightest_from before b rest) (w.tightest-is ∙ w.tighter-tightest.ensures)
-          ∙ ap (λ (o : Option Timely). tightest_from before best (cons_option o rest)) (sym w.in-Some.is)
-      | in_default w ↦
-          ap (λ (b : Option Timely). tightest_from before b rest) w.tightest-is
-          ∙ ap (λ (o : Option Timely). tightest_from before best (cons_option o rest)) (sym w.in_default.is)
-    ] in
+    let kept : c.closest-tightest.result ≡ closest best (timely_at rows i (get_or k i no_record)) = search rules in
     record {
       few = omega (arith, at_most_one (get_or k i no_record).pending);
       count = omega arith;
-      found = turn ∙ sym (timely_more rows k best i l c.timely_at.result c.timely_at.ensures) ∙ inv.found;
+      found = ap (λ (b : Option Timely). tightest_from closer b (counted (timely_at rows) (i + 1) (drop (i + 1) k))) kept ∙ sym (timely_more rows k best i l) ∙ inv.found;
     }
 
 pub returns : goal.returns
@@ -50,10 +37,9 @@ returns c =
     let inv = c.loop-place.invariant in
     let pending : c.loop-place.pending ≡ pending_in k = grind (arith, at_drop_all pending_in k i c.loop-place-test.false) in
     let arrived : length k - c.loop-place.pending ≡ arrived_in k = omega (arith, counts_add k) in
-    let found : c.loop-place.tightest ≡ tightest_of (comes_before timely_cmp) (counted (timely_at rows) 0 k) =
-    sym (at_drop_all (λ (ys : List Record). tightest_from (comes_before timely_cmp) c.loop-place.tightest (counted (timely_at rows) i ys)) k i c.loop-place-test.false)
+    let found : c.loop-place.tightest ≡ tightest_of closer (counted (timely_at rows) 0 k) =
+    sym (at_drop_all (λ (ys : List Record). tightest_from closer c.loop-place.tightest (counted (timely_at rows) i ys)) k i c.loop-place-test.false)
     ∙ inv.found in
     let mapped : c.map.result ≡ place_of c.loop-place.tightest = search rules in
-    let place : c.map.result ≡ tightest_record rows k =
-    mapped ∙ ap place_of (found ∙ ap (λ before. tightest_of before (counted (timely_at rows) 0 k)) closer_is) in
+    let place : c.map.result ≡ tightest_record rows k = mapped ∙ ap place_of found in
     λ j. record { accepted = length k; arrived = arrived j; pending = pending j; tightest = place j }

@@ -18,4 +18,4 @@ use Rattle.run_vectors.proofs.cases.cases.Goals as goal
 -- the definitions compute each case
 pub returns : goal.returns
 unfolding has shares header_of flow_at capacity parts_of last_flits tail_of sum_to every_to ceil_div within figure alone jitter delay demand climb rounds base settled searched figure_of bounds_to bound_of rounds_of each_flow load_checks timing_of table_of slots_from leads blocked decided ledger_after grant_count
-returns c = (computed-runs refl refl refl refl (λ x. refl), (computed-runs refl refl refl refl (λ x. refl), (computed-runs refl refl refl refl (λ x. refl), (computed-runs refl refl refl refl (λ x. refl), tt))))
+returns c = (computed-runs refl refl refl (λ x. refl), (computed-runs refl refl refl (λ x. refl), (computed-runs refl refl refl (λ x. refl), (computed-runs refl refl refl (λ x. refl), tt))))

@@ -9,15 +9,17 @@ pub loop-k-preserved : goal.loop-k-preserved
 loop-k-preserved g c =
     let k = c.loop-k.k in
     let flows = c.as_slice-flows.result.now in
-    let same = c.as_slice-flows.ensures.rows in
-    turn_more g.M.Medium.most k c.loop-k.rows _ _ _ _ (g.M.Medium.levels c.loop-k.medium) _ _ (omega arith) (ap (take k) same)
-    (get_or_read flows k c.index-flows-k.result (omega (arith, ap length same)) c.index-flows-k.is no_row ∙ ap (λ (rs : List FlowRow). get_or rs k no_row) same)
-    c.run_interval-granted.ensures.answer
-    c.run_interval-granted.ensures.after
-    c.mark.ensures
-    c.loop-k.invariant
+    let same = c.as_slice-flows.ensures.rows in (
+      turn_more g.M.Medium.most k c.loop-k.rows _ _ _ _ (g.M.Medium.levels c.loop-k.medium) _ _ (omega arith) (ap (take k) same)
+          (get_or_read flows k c.index-flows-k.result (omega (arith, ap length same)) c.index-flows-k.is no_row ∙ ap (λ (rs : List FlowRow). get_or rs k no_row) same)
+          c.run_interval-granted.ensures.answer
+          c.run_interval-granted.ensures.after
+          c.mark.ensures.rows
+          c.loop-k.invariant.0,
+      c.mark.ensures.small,
+    )
 
 pub returns : goal.returns
 returns g c =
-    let told = turn_all g.M.Medium.most c.loop-k.k _ _ _ (omega arith) c.loop-k.invariant in
-    record { rows = told.0; levels = told.1 }
+    let told = turn_all g.M.Medium.most c.loop-k.k _ _ _ (omega arith) c.loop-k.invariant.0 in
+    record { rows = told.0; small = c.loop-k.invariant.1; levels = told.1 }

@@ -15,7 +15,7 @@ pub returns-clause-stands : goal.returns-clause-stands
 returns-clause-stands c = λ b told meets inside parts tail separation deadline.
     let rows = c.args.self.now.rows.now in
     let i = length rows + 1 in
-    let above = c.in_ok-above.above in
+    let above = c.sharing-above.result in
     let climb = c.in_ok-climb.climb in
     let row : Row =
     record {
@@ -28,7 +28,7 @@ returns-clause-stands c = λ b told meets inside parts tail separation deadline.
       bound = climb.least;
       rounds = climb.rounds;
     } in
-    let marks = marks_from b rows c.args.path above row c.in_ok-above.ensures meets in
+    let marks = marks_from b rows c.args.path above row c.args.self.now.few c.sharing-above.ensures meets in
     let own =
     alone_from b i c.from-parts.result c.saturating_sub.result c.from-length.result c.args.split.tail c.saturating_sub.ensures (c.from-parts.ensures ∙ parts)
     (c.from-length.ensures ∙ told.times.length_is) tail in

@@ -7,4 +7,5 @@ invariant-loop-k g l =
     × (g.F.Fabric.route l.fabric l.trip.flow l.trip.source l.trip.destination ≡ Ok p)
     × (length p ≡ l.len)
     × (length p ≤ 64)
-    × (l.links.items ≡ take l.k p)
+    × (length l.links ≡ 64)
+    × (take l.k l.links ≡ take l.k p)

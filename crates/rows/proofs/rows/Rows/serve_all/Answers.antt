@@ -23,6 +23,13 @@ invariant_of-self c =
     let is = whole c.loop-row.row-items items c.self.inside.items.len (omega arith) (omega arith) ∙ told.1 ∙ ap (map served) c.deref_mut-row-items.ensures.value in
     subst Small (sym is) (small_served items c.self.invariant)
 
+pub returns-clause-small : goal.returns-clause-small
+returns-clause-small c =
+    let items = vec_items c.self.inside.items in
+    let told = serve_all _ _ c.loop-row.row-items c.deref_mut-row-items.result.now c.loop-row.ledger _ c.loop-row.grants (omega arith) (omega arith) c.loop-row.invariant in
+    let is = whole c.loop-row.row-items items c.self.inside.items.len (omega arith) (omega arith) ∙ told.1 ∙ ap (map served) c.deref_mut-row-items.ensures.value in
+    subst Small (sym is) (small_served items c.self.invariant)
+
 pub returns-clause-answer : goal.returns-clause-answer
 returns-clause-answer c =
     let told = serve_all _ _ c.loop-row.row-items c.deref_mut-row-items.result.now c.loop-row.ledger _ c.loop-row.grants (omega arith) (omega arith) c.loop-row.invariant in

@@ -21,7 +21,7 @@ unreachable-requires g c =
     let rows = vec_items c.in_ok-loaded.loaded.rows in
     let few : N ≤ 256 = (g.met.F.Fabric.sizes c.args.fabric.now).1 in
     let small = small_rows bs N g.M.Medium.most R fine rows few c.in_ok-loaded.ensures.answer.1.rows_fit in
-    subst (Fills c.as_slice.result.now) c.in_default.is c.in_ok-rows.ensures
+    subst (Fills c.as_slice.result.now) c.in_default.is c.in_ok-rows.ensures.rows
     (subst (λ (l : List Row). Small (map idle l)) (sym c.as_slice.ensures.value) small)
 
 -- and its slots are short
