@@ -1,33 +1,12 @@
--- Looking for a link in a route, link by link, and the two questions in the words of the library. Assumes nothing.
-use Rattle.std.proofs.Common.{◌≡◌, ℕ, ◌+◌, ◌<◌, ◌≤◌, true, false, ◌||◌, eqb, List, [], ◌∷◌, length, get_or, drop, refl, ap, ap₂, ◌∙◌, arith, ◌==◌}
-use Rattle.std.proofs.lemmas.List.{drop_more, drop_all}
+-- Looking for a link in a route, and the two questions in the words of the library: link by link, all in one go, and in chunks. Assumes nothing.
+use Rattle.std.proofs.Common.{◌≡◌, ℕ, zero, suc, ◌*◌, Bool, true, false, ◌||◌, List, [], ◌∷◌, ◌++◌, take, drop, refl, sym, ap, ap₂, ◌∙◌, arith, ◌==◌}
+use Rattle.std.proofs.Math.Bool.{or_assoc}
+use Rattle.std.proofs.Math.Nat.{zero-mul, suc-mul}
+use Rattle.std.proofs.lemmas.List.{take-append-drop, drop-drop}
 use Rattle.std.proofs.lemmas.Bool.Decides.{nat_tests}
-use Rattle.std.specs.List.{list_any}
+use Rattle.std.specs.List.{list_any, fold}
+use Rattle.std.specs.Simd.{first_chunks}
 use Rattle.fabric.specs.Paths.{has, shares}
-
-pub has_here : (link : ℕ) (xs : List ℕ) (k : ℕ) → k < length xs → eqb link (get_or xs k 0) ≡ true → has link (drop k xs) ≡ true
-unfolding has
-has_here link xs k lt e = ap (has link) (drop_more xs k 0 lt) ∙ ap (λ t. t || has link (drop (k + 1) xs)) e
-
-pub has_on : (link : ℕ) (xs : List ℕ) (k : ℕ) → k < length xs → eqb link (get_or xs k 0) ≡ false → has link (drop k xs) ≡ has link (drop (k + 1) xs)
-unfolding has
-has_on link xs k lt e = ap (has link) (drop_more xs k 0 lt) ∙ ap (λ t. t || has link (drop (k + 1) xs)) e
-
-pub has_none : (link : ℕ) (xs : List ℕ) (k : ℕ) → length xs ≤ k → has link (drop k xs) ≡ false
-unfolding has
-has_none link xs k le = ap (has link) (drop_all k xs le)
-
-pub shares_here : (xs ys : List ℕ) (k : ℕ) → k < length xs → has (get_or xs k 0) ys ≡ true → shares (drop k xs) ys ≡ true
-unfolding shares
-shares_here xs ys k lt e = ap (λ l. shares l ys) (drop_more xs k 0 lt) ∙ ap (λ t. t || shares (drop (k + 1) xs) ys) e
-
-pub shares_on : (xs ys : List ℕ) (k : ℕ) → k < length xs → has (get_or xs k 0) ys ≡ false → shares (drop k xs) ys ≡ shares (drop (k + 1) xs) ys
-unfolding shares
-shares_on xs ys k lt e = ap (λ l. shares l ys) (drop_more xs k 0 lt) ∙ ap (λ t. t || shares (drop (k + 1) xs) ys) e
-
-pub shares_none : (xs ys : List ℕ) (k : ℕ) → length xs ≤ k → shares (drop k xs) ys ≡ false
-unfolding shares
-shares_none xs ys k le = ap (λ l. shares l ys) (drop_all k xs le)
 
 turned : (x y : ℕ) → (x == y) ≡ (y == x)
 turned x y = grind (arith, nat_tests)
@@ -41,3 +20,32 @@ pub shares_any : (p q : List ℕ) → shares p q ≡ list_any (λ x. has x q) p
 unfolding shares
 shares_any [] q = refl
 shares_any (x ∷ p) q = ap (λ b. has x q || b) (shares_any p q)
+
+folded_from : (link : ℕ) (found : Bool) (xs : List ℕ) → fold (λ f x. f || (x == link)) found xs ≡ (found || has link xs)
+unfolding has
+folded_from link true [] = refl
+folded_from link false [] = refl
+folded_from link found (x ∷ xs) =
+    folded_from link (found || (x == link)) xs ∙ or_assoc found (x == link) (has link xs) ∙ ap (λ t. found || (t || has link xs)) (turned x link)
+
+pub has_fold : (link : ℕ) (xs : List ℕ) → has link xs ≡ fold (λ f x. f || (x == link)) false xs
+has_fold link xs = sym (folded_from link false xs)
+
+has_append : (link : ℕ) (xs ys : List ℕ) → has link (xs ++ ys) ≡ (has link xs || has link ys)
+unfolding has
+has_append link [] ys = refl
+has_append link (x ∷ xs) ys = ap (λ t. link == x || t) (has_append link xs ys) ∙ sym (or_assoc (link == x) (has link xs) (has link ys))
+
+next_chunk : (n k : ℕ) (xs : List ℕ) → drop (k * n) (drop n xs) ≡ drop (suc k * n) xs
+next_chunk n k xs = drop-drop (k * n) n xs ∙ ap (λ d. drop d xs) (omega (arith, suc-mul k n))
+
+-- Among the first k chunks of n, or in what stands after them.
+pub has_chunks : (link n k : ℕ) (xs : List ℕ) → has link xs ≡ (list_any (has link) (first_chunks n k xs) || has link (drop (k * n) xs))
+has_chunks link n zero xs = ap (λ d. has link (drop d xs)) (sym (zero-mul n))
+has_chunks link n (suc k) xs =
+    let first = has link (take n xs) in
+    let others = list_any (has link) (first_chunks n k (drop n xs)) in
+    ap (has link) (sym (take-append-drop n xs))
+    ∙ has_append link (take n xs) (drop n xs)
+    ∙ ap (λ t. first || t) (has_chunks link n k (drop n xs) ∙ ap (λ ys. others || has link ys) (next_chunk n k xs))
+    ∙ sym (or_assoc first others (has link (drop (suc k * n) xs)))

@@ -7,6 +7,15 @@ use crate::fabric::Fabric;
 use crate::fault::RouteFault;
 use crate::trip::Trip;
 
+// Whether a link is among some. Without a stop at the first that is it, the compiler compares them all at once.
+fn stands_in(links: &[usize], link: usize) -> bool
+    ensures { result ≡ has link links.now }
+{
+    links
+        .iter()
+        .fold(false, |found, kept| found | (*kept == link))
+}
+
 impl Path {
     // Copies the route of a flow.
     pub fn take<F: Fabric>(fabric: &F, trip: Trip) -> Result<Path, RouteFault>
@@ -31,28 +40,24 @@ impl Path {
         self.len
     }
 
-    // Whether a link stands in it. By index, here and below: a load compares the routes of all pairs of flows, and over the library's `contains`
-    // and `any` 128 flows were loaded in half as much time again.
+    // Whether a link stands in it. A load compares the routes of all pairs of flows, so it looks at four links at a time, and at no more once it is found.
     pub fn has(&self, link: usize) -> bool
         ensures { result ≡ has link (links_in self.now) }
     {
-        for k in 0..self.len {
-            if self.links[k] == link {
-                return true;
-            }
-        }
-        false
+        let (fours, rest) = self.as_slice().as_chunks::<4>();
+        fours.iter().any(|four| stands_in(four, link)) || rest.contains(&link)
     }
 
     // Whether one link stands in both.
     pub fn shares(&self, other: &Path) -> bool
         ensures { result ≡ shares (links_in self.now) (links_in other.now) }
     {
-        for k in 0..self.len {
-            if other.has(self.links[k]) {
-                return true;
-            }
-        }
-        false
+        self.as_slice().iter().any(|link| other.has(*link))
+    }
+
+    fn as_slice(&self) -> &[usize]
+        ensures { result.now ≡ links_in self.now }
+    {
+        &self.links[..self.len]
     }
 }

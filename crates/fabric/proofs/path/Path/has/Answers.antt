@@ -1,29 +1,25 @@
-use Rattle.std.proofs.Common.{◌<◌, ◌≤◌, length, sym, refl, ◌∙◌, arith}
-use Rattle.std.proofs.lemmas.Bool.{eq-eqb, ne_eqb}
-use Rattle.fabric.specs.Paths.{links_in}
-use Rattle.fabric.proofs.Kept.{kept_length, kept_link}
-use Rattle.fabric.proofs.Sharing.{has_here, has_on, has_none}
+use Rattle.std.proofs.Common.{List, ℕ, ◌||◌, ◌*◌, drop, ◌/◌, length, sym, ap, ◌∙◌, rules, tests}
+use Rattle.std.proofs.lemmas.Iterator.{YieldsList-from_slice}
+use Rattle.std.proofs.lemmas.Iterator.Search.{any_from_yields_List}
+use Rattle.std.specs.Simd.{first_chunks}
+use Rattle.fabric.specs.Paths.{has, links_in}
+use Rattle.fabric.proofs.Sharing.{has_any, has_chunks}
 use Rattle.fabric.proofs.path.Path.has.Goals as goal
 
-pub loop-k-init : goal.loop-k-init
-loop-k-init c = refl
+pub returns-then-any : goal.returns-then-any
+returns-then-any c =
+    let link = c.args.link in
+    let links = links_in c.args.self.now in
+    let k = length links / 4 in
+    let fours = any_from_yields_List (has link) _ _ _ c.any.ensures.ran (YieldsList-from_slice (first_chunks 4 k links) cc) (λ x b r q. search (rules, tests)) in
+    c.if-any.true ∙ sym (has_chunks link 4 k links ∙ ap (λ t. t || has link (drop (k * 4) links)) (sym fours ∙ c.if-any.true))
 
-pub returns-then-self-k : goal.returns-then-self-k
-returns-then-self-k c =
-    let p = c.args.self.now in
-    let k = c.loop-k.k in
-    let within : k < length (links_in p) = omega (arith, kept_length p, c.loop-k-test.true) in
-    sym (c.loop-k.invariant ∙ has_here _ _ k within (eq-eqb _ _ (sym (kept_link p k c.loop-k-test.true ∙ c.if-self-k.true))))
-
-pub loop-k-preserved : goal.loop-k-preserved
-loop-k-preserved c =
-    let p = c.args.self.now in
-    let k = c.loop-k.k in
-    let within : k < length (links_in p) = omega (arith, kept_length p, c.loop-k-test.true) in
-    c.loop-k.invariant ∙ has_on _ _ k within (ne_eqb _ _ (λ e. c.if-self-k.false (sym (kept_link p k c.loop-k-test.true) ∙ sym e)))
-
-pub returns : goal.returns
-returns c =
-    let p = c.args.self.now in
-    let past : length (links_in p) ≤ c.loop-k.k = omega (arith, kept_length p, c.loop-k-test.false) in
-    sym (c.loop-k.invariant ∙ has_none _ _ _ past)
+pub returns-else-any : goal.returns-else-any
+returns-else-any c =
+    let link = c.args.link in
+    let links = links_in c.args.self.now in
+    let k = length links / 4 in
+    let fours = any_from_yields_List (has link) _ _ _ c.any.ensures.ran (YieldsList-from_slice (first_chunks 4 k links) cc) (λ x b r q. search (rules, tests)) in
+    let back = c.as_chunks.ensures.back ∙ ap (λ (xs : List ℕ). drop (length xs / 4 * 4) xs) c.as_slice.ensures in
+    let rest = c.contains.ensures.value ∙ sym (has_any link c.as_chunks.result.1.now) ∙ ap (has link) back in
+    rest ∙ sym (has_chunks link 4 k links ∙ ap (λ t. t || has link (drop (k * 4) links)) (sym fours ∙ c.if-any.false))
